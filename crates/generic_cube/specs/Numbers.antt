@@ -1,0 +1,48 @@
+-- Numbers: the sizes of a cube, the letters of its faces, and the answers that carry a refusal's number.
+use Prim.Native.Nat.{ℕ, _*_}
+use mathlib.Core.Bool.{Bool, true, false}
+use mathlib.Core.List.{List, [], _∷_}
+use lib.Dec.{ltb, leb, eqb}
+use lib.ListN.{getD}
+use Rattle.ground.specs.Choice.{pick}
+use Rattle.generic_cube.specs.declared.Done.{Done}
+use Rattle.generic_cube.specs.declared.Done.the-variants.{Ok}
+use Rattle.generic_cube.specs.declared.Answer.{Answer}
+use Rattle.generic_cube.specs.declared.Answer.the-variants.{Value}
+
+-- size n is 1 to 104
+unfoldable pub sized : ℕ → Bool
+sized n = pick (ltb n 1) false (leb n 104)
+
+-- a cube has 6n² stickers
+abbrev pub stickers : ℕ → ℕ
+stickers n = 6 * n * n
+
+-- the letters of the faces in their order, U R F D L B; and X, of a masked sticker
+abbrev pub letters : List ℕ
+letters = 85 ∷ 82 ∷ 70 ∷ 68 ∷ 76 ∷ 66 ∷ []
+
+abbrev pub letterX : ℕ
+letterX = 88
+
+-- the answer of an entry that gives nothing back: the refusal's number decides it, 0 for none
+abbrev pub done : ℕ → Done
+done k = pick (eqb k 0) Ok (Done.Refused k)
+
+-- the answer of an entry that gives a value back: a count, an index
+abbrev pub answer : ℕ → ℕ → Answer
+answer k value = pick (eqb k 0) (Value value) (Answer.Refused k)
+
+-- document 01's number of each case, 0 where nothing is refused
+abbrev pub doneNo : Done → ℕ
+doneNo Ok = 0
+doneNo (Done.Refused k) = k
+
+abbrev pub answerNo : Answer → ℕ
+answerNo (Value value) = 0
+answerNo (Answer.Refused k) = k
+
+-- and its value, 0 where something is refused
+abbrev pub answerValue : Answer → ℕ
+answerValue (Value value) = value
+answerValue (Answer.Refused k) = 0

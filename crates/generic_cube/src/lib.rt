@@ -1,0 +1,108 @@
+// Sizes, move codes and lists of them: generic_cube.rs.
+ghost use mathlib.Core.Path.{_≡_};
+ghost use Rattle.generic_cube.specs.Numbers.{sized};
+ghost use Rattle.generic_cube.specs.Code.{isWide, badWidth, readCode, listRefusal};
+
+pub mod moves;
+pub mod stickers;
+
+// The answer of an entry that gives nothing back.
+pub enum Done {
+    Ok,
+    Refused(u8),
+}
+
+// The answer of an entry that gives a value back: a count, an index.
+pub enum Answer {
+    Value(usize),
+    Refused(u8),
+}
+
+// A move taken apart. Kinds: U 0, L 1, F 2, R 3, B 4, D 5, Uw 6, .., Dw 11, X 12, Y 13, Z 14. Turns: 1, 2, 3.
+pub struct Move {
+    pub kind: usize,
+    pub width: usize,
+    pub turn: usize,
+}
+
+// What a code is: a move, or the number of its refusal.
+pub enum Code {
+    Taken(Move),
+    Refused(u8),
+}
+
+// The sizes 1 to 104.
+pub fn is_size(n: usize) -> bool
+    ensures { λ r. ⌜ r ≡ sized n ⌝ }
+{
+    if n < 1 {
+        return false;
+    }
+    n <= 104
+}
+
+// Kinds 6 to 11 have a width.
+pub fn is_wide(kind: usize) -> bool
+    ensures { λ r. ⌜ r ≡ isWide kind ⌝ }
+{
+    if kind < 6 {
+        return false;
+    }
+    kind < 12
+}
+
+// Takes a code apart, or refuses it with 3.
+pub fn read_code(code: u16) -> Code
+    ensures { λ r. ⌜ r ≡ readCode code ⌝ }
+{
+    let c = code as usize;
+    let kind = c / 4 % 16;
+    let width = c / 64;
+    let turn = c % 4;
+    if turn == 0 {
+        return Code::Refused(3);
+    }
+    if kind == 15 {
+        return Code::Refused(3);
+    }
+    if is_wide(kind) {
+        return Code::Taken(Move { kind, width, turn });
+    }
+    if width != 0 {
+        return Code::Refused(3);
+    }
+    Code::Taken(Move { kind, width, turn })
+}
+
+// Whether a move is wide and its width is not 1 to n.
+fn is_bad_width(n: usize, m: Move) -> bool
+    ensures { λ r. ⌜ r ≡ badWidth n m ⌝ }
+{
+    let kind = m.kind;
+    let width = m.width;
+    if is_wide(kind) {
+        if width == 0 {
+            return true;
+        }
+        return n < width;
+    }
+    false
+}
+
+// The lowest refusal in a list, 0 for none: 3 anywhere beats 5 anywhere.
+pub fn list_refusal(n: usize, list: &[u16]) -> u8
+    ensures { λ r. ⌜ r ≡ listRefusal n (now (list .entry)) ⌝ }
+{
+    let mut number: u8 = 0;
+    let mut i = 0;
+    while i < list.len() {
+        let Code::Taken(m) = read_code(list[i]) else {
+            return 3;
+        };
+        if is_bad_width(n, m) {
+            number = 5;
+        }
+        i += 1;
+    }
+    number
+}

@@ -1,0 +1,73 @@
+-- A choice by a test, and the tests of a whole list.
+use Prim.Native.Nat.{ℕ, zero, suc, _+_, _<_, _≤_}
+use mathlib.Core.Path.{_≡_, refl, ap, sym, _∙_}
+use mathlib.Core.Bool.{Bool, true, false, true≢false}
+use mathlib.Core.List.{List, [], _∷_}
+use native.Mathlib.Numerals.{add-one}
+use native.Mathlib.Omega.{arith}
+use lib.Dec.{eqb}
+use lib.ListN.{length, getD, drop, drop-of-length-le}
+use lib.Seq.{drop-cons}
+use borrow.Author.Tests.{eq-eqb, ne-eqb}
+
+-- the first where the test holds, else the second
+abbrev pub pick {ℓ} : {A : Type ℓ} → Bool → A → A → A
+pick true a b = a
+pick false a b = b
+
+-- a test is true or false
+pub bool-cases {ℓ} : {A : Type ℓ} (t : Bool) → (t ≡ true → A) → (t ≡ false → A) → A
+bool-cases true f g = f refl
+bool-cases false f g = g refl
+
+-- whether the test holds of an element of the list
+unfoldable pub any : (ℕ → Bool) → List ℕ → Bool
+any p [] = false
+any p (x ∷ xs) = pick (p x) true (any p xs)
+
+-- the place of the first element that is b, the list's length where none is
+unfoldable pub position : ℕ → List ℕ → ℕ
+position b [] = 0
+position b (x ∷ xs) = pick (eqb x b) 0 (suc (position b xs))
+
+-- a walk that comes to place i: the test of what is left
+module _ (p : ℕ → Bool) (xs : List ℕ) (i : ℕ) where
+  pub any-here : i < length xs → p (getD xs i 0) ≡ true → any p (drop i xs) ≡ true
+  unfolding any
+  any-here h t = rw (drop-cons xs i 0 h, t)
+
+  pub any-next : i < length xs → p (getD xs i 0) ≡ false → any p (drop i xs) ≡ any p (drop (i + 1) xs)
+  unfolding any
+  any-next h t = rw (add-one i, drop-cons xs i 0 h, t)
+
+  pub any-end : length xs ≤ i → any p (drop i xs) ≡ false
+  unfolding any
+  any-end h = rw (drop-of-length-le xs h)
+
+-- where the test holds of no element, it fails at each
+pub any-none : (p : ℕ → Bool) (xs : List ℕ) → any p xs ≡ false → (i : ℕ) → i < length xs → p (getD xs i 0) ≡ false
+unfolding any
+any-none p [] e i h = absurd (omega arith)
+any-none p (x ∷ xs) e zero h = bool-cases (p x) (λ t. absurd (true≢false (rw t at e))) (λ t. t)
+any-none p (x ∷ xs) e (suc i) h =
+    any-none p xs (bool-cases (p x) (λ t. absurd (true≢false (rw t at e))) (λ t. rw t at e)) i (omega arith)
+
+-- the same for a place that is looked for
+module _ (b : ℕ) (xs : List ℕ) (i : ℕ) where
+  pub position-here : i < length xs → getD xs i 0 ≡ b → position b (drop i xs) ≡ 0
+  unfolding position
+  position-here h e = rw (drop-cons xs i 0 h, eq-eqb _ _ e)
+
+  pub position-next : i < length xs → (getD xs i 0 ≡ b → ⊥) → position b (drop i xs) ≡ suc (position b (drop (i + 1) xs))
+  unfolding position
+  position-next h e = rw (add-one i, drop-cons xs i 0 h, ne-eqb _ _ e)
+
+  pub position-end : length xs ≤ i → position b (drop i xs) ≡ 0
+  unfolding position
+  position-end h = rw (drop-of-length-le xs h)
+
+pub position-most : (b : ℕ) (xs : List ℕ) → position b xs ≤ length xs
+unfolding position
+position-most b [] = omega arith
+position-most b (x ∷ xs) =
+    bool-cases (eqb x b) (λ t. rw t (omega arith)) (λ t. rw t (omega (arith, position-most b xs)))

@@ -1,0 +1,39 @@
+-- What a loop that fills a slice from the front keeps true, whatever it fills it with.
+use Prim.Native.Nat.{ℕ, _+_, _<_, _≤_}
+use mathlib.Core.Path.{_≡_, refl, ap, sym, _∙_}
+use mathlib.Core.List.{List}
+use native.Mathlib.Omega.{arith}
+use lib.ListN.{length, getD, set, length-set, replicate, length-replicate, getD-replicate}
+use lib.Seq.{ext-getD}
+use Rattle.ground.specs.Fill.{tabulate, length-tabulate, tabulated, Filled, filled-none, filled-more}
+
+-- `l`, once `l₀`, has its first j places done
+pub record Filling (f : ℕ → ℕ) (l₀ l : List ℕ) (j : ℕ) : Type 0 where
+  pub long : length l ≡ length l₀
+  pub most : j ≤ length l
+  pub done : Filled f j l
+
+module _ {f : ℕ → ℕ} {l₀ : List ℕ} where
+  pub fill-none : Filling f l₀ l₀ 0
+  fill-none = record { long = refl; most = omega arith; done = filled-none f l₀ }
+
+  pub fill-more : {l : List ℕ} {j v : ℕ} → Filling f l₀ l j → j < length l → v ≡ f j → Filling f l₀ (set l j v) (j + 1)
+  fill-more {l} {j} {v} g h e =
+      record {
+        long = length-set l j v ∙ g .long;
+        most = simp length-set (omega arith);
+        done = filled-more f l j v h e (g .done);
+      }
+
+  pub fill-all : {l : List ℕ} {j : ℕ} → Filling f l₀ l j → length l ≤ j → l ≡ tabulate (length l₀) f
+  fill-all {l} {j} g h = tabulated f l (length l₀) (g .long) (λ i k. let e = g .long in g .done i (omega arith))
+
+-- filled from another list of that length, it is that list; filled with zeros, it is zeros
+pub copied : {s l₀ l : List ℕ} {j : ℕ} → Filling (λ k. getD s k 0) l₀ l j → length l ≤ j → length l₀ ≡ length s → l ≡ s
+copied {s} {l₀} {l} {j} g h e =
+    ext-getD 0 l s (g .long ∙ e) (λ i k. g .done i (omega arith))
+
+pub cleared : {l₀ l : List ℕ} {j : ℕ} → Filling (λ k. 0) l₀ l j → length l ≤ j → l ≡ replicate (length l₀) 0
+cleared {l₀} {l} {j} g h =
+    ext-getD 0 l (replicate (length l₀) 0) (g .long ∙ sym (length-replicate (length l₀) 0))
+    (λ i k. let e = g .long in g .done i (omega arith) ∙ sym (getD-replicate (length l₀) i 0 0 (omega arith)))
