@@ -2,9 +2,11 @@
 use Prim.Native.Nat.{ℕ, zero, suc, _+_, _<_, _≤_}
 use mathlib.Core.Path.{_≡_, refl, ap, sym, _∙_}
 use mathlib.Core.Bool.{Bool, true, false, true≢false}
+use mathlib.Core.Logic.{⊎-elim}
 use mathlib.Core.List.{List, [], _∷_}
 use native.Mathlib.Numerals.{add-one}
 use native.Mathlib.Omega.{arith}
+use native.Mathlib.Nat.{eq-or-lt-of-le}
 use lib.Dec.{eqb}
 use lib.ListN.{length, getD, drop, drop-of-length-le}
 use lib.Seq.{drop-cons}
@@ -71,3 +73,25 @@ unfolding position
 position-most b [] = omega arith
 position-most b (x ∷ xs) =
     bool-cases (eqb x b) (λ t. rw t (omega arith)) (λ t. rw t (omega (arith, position-most b xs)))
+
+-- whether the test holds of a number below m
+unfoldable pub anyBelow : (ℕ → Bool) → ℕ → Bool
+anyBelow p zero = false
+anyBelow p (suc m) = pick (p m) true (anyBelow p m)
+
+pub below-found : (p : ℕ → Bool) (j m : ℕ) → j < m → p j ≡ true → anyBelow p m ≡ true
+unfolding anyBelow
+below-found p j zero h t = absurd (omega arith)
+below-found p j (suc m) h t =
+    bool-cases (p m) (λ u. rw u)
+    (λ u. rw u (below-found p j m (less u) t))
+  where
+    less : p m ≡ false → j < m
+    less u = ⊎-elim (λ e. absurd (true≢false (sym t ∙ ap p e ∙ u))) (λ l. l) (eq-or-lt-of-le {n = j} {m = m} (omega arith))
+
+pub below-next : (p : ℕ → Bool) (j : ℕ) → anyBelow p j ≡ false → p j ≡ false → anyBelow p (j + 1) ≡ false
+unfolding anyBelow
+below-next p j h t = rw (add-one j, t) h
+
+pub below-none : (p : ℕ → Bool) (m : ℕ) → anyBelow p m ≡ false → (j : ℕ) → j < m → p j ≡ false
+below-none p m e j h = bool-cases (p j) (λ t. absurd (true≢false (sym (below-found p j m h t) ∙ e))) (λ t. t)

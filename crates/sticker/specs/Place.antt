@@ -1,0 +1,120 @@
+-- Places of stickers. Document 01 writes a coordinate between -n and n; here n is added to each, so that all are natural numbers:
+-- its n is `top n`, its -n is `bot`, its -x is `neg n x`, and its -n+1, -n+3, .., n-1 are `mid 0`, `mid 1`, .., `mid (n - 1)`.
+use Prim.Native.Nat.{ℕ, zero, suc, _+_, _-_, _*_, _/_, _%_}
+use mathlib.Core.Bool.{Bool, true, false}
+use lib.Dec.{eqb}
+use Rattle.ground.specs.Choice.{pick}
+use Rattle.sticker.specs.declared.Face.{Face}
+use Rattle.sticker.specs.declared.Face.the-variants.{U, R, F, D, L, B}
+use Rattle.sticker.specs.declared.Pos.{Pos}
+use Rattle.sticker.specs.declared.Slot.{Slot}
+use Rattle.sticker.specs.declared.Side.{Side}
+use Rattle.sticker.specs.declared.Side.the-variants.{On, Nowhere}
+use Rattle.sticker.specs.declared.Found.{Found}
+use Rattle.sticker.specs.declared.Found.the-variants.{At, NoFace}
+
+abbrev pub top : ℕ → ℕ
+top n = 2 * n
+
+abbrev pub bot : ℕ
+bot = 0
+
+abbrev pub neg : ℕ → ℕ → ℕ
+neg n c = 2 * n - c
+
+abbrev pub mid : ℕ → ℕ
+mid k = 2 * k + 1
+
+abbrev pub at3 : ℕ → ℕ → ℕ → Pos
+at3 x y z = record { x = x; y = y; z = z }
+
+-- x=n R, x=-n L, y=n U, y=-n D, z=n F, z=-n B
+abbrev pub side : ℕ → Pos → Side
+side n p =
+    pick (eqb (p .x) (top n)) (On R)
+    (pick (eqb (p .x) bot) (On L)
+    (pick (eqb (p .y) (top n)) (On U)
+    (pick (eqb (p .y) bot) (On D)
+    (pick (eqb (p .z) (top n)) (On F)
+    (pick (eqb (p .z) bot) (On B) Nowhere)))))
+
+-- whether a position lies on a face, and that face; where it lies on none the second is not asked
+abbrev pub isOn : Side → Bool
+isOn (On f) = true
+isOn Nowhere = false
+
+abbrev pub faceOn : Side → Face
+faceOn (On f) = f
+faceOn Nowhere = B
+
+abbrev pub faceOf : ℕ → Pos → Face
+faceOf n p = faceOn (side n p)
+
+-- faces are stored in the order U R F D L B
+abbrev pub numOf : Face → ℕ
+numOf U = 0
+numOf R = 1
+numOf F = 2
+numOf D = 3
+numOf L = 4
+numOf B = 5
+
+abbrev pub nthFace : ℕ → Face
+nthFace zero = U
+nthFace (suc zero) = R
+nthFace (suc (suc zero)) = F
+nthFace (suc (suc (suc zero))) = D
+nthFace (suc (suc (suc (suc zero)))) = L
+nthFace (suc (suc (suc (suc (suc k))))) = B
+
+-- rows of z first, then x, both rising, starting from (x, n, z); the place of that row and column of each face
+abbrev pub seat : ℕ → Face → ℕ → ℕ → Pos
+seat n U x z = at3 x (top n) z
+seat n R x z = at3 (top n) (neg n z) (neg n x)
+seat n F x z = at3 x (neg n z) (top n)
+seat n D x z = at3 x bot (neg n z)
+seat n L x z = at3 bot (neg n z) x
+seat n B x z = at3 (neg n x) (neg n z) bot
+
+abbrev pub placeOf : ℕ → Slot → Pos
+placeOf n s = seat n (s .face) (mid (s .col)) (mid (s .row))
+
+-- the column x and the row z from which `seat` gives p
+abbrev pub colOn : ℕ → Face → Pos → ℕ
+colOn n U p = p .x
+colOn n R p = neg n (p .z)
+colOn n F p = p .x
+colOn n D p = p .x
+colOn n L p = p .z
+colOn n B p = neg n (p .x)
+
+abbrev pub rowOn : ℕ → Face → Pos → ℕ
+rowOn n U p = p .z
+rowOn n R p = neg n (p .y)
+rowOn n F p = neg n (p .y)
+rowOn n D p = neg n (p .z)
+rowOn n L p = neg n (p .y)
+rowOn n B p = neg n (p .y)
+
+abbrev pub slotOn : ℕ → Pos → Face → Slot
+slotOn n p f = record { face = f; row = rowOn n f p / 2; col = colOn n f p / 2 }
+
+abbrev pub slotOf : ℕ → Pos → Slot
+slotOf n p = slotOn n p (faceOf n p)
+
+-- index and slot: faces in order, rows of a face, columns of a row
+abbrev pub flat : ℕ → Slot → ℕ
+flat n s = (numOf (s .face) * n + s .row) * n + s .col
+
+abbrev pub unflat : ℕ → ℕ → Slot
+unflat n j = record { face = nthFace (j / n / n); row = j / n % n; col = j % n }
+
+abbrev pub place : ℕ → ℕ → Pos
+place n j = placeOf n (unflat n j)
+
+abbrev pub index : ℕ → Pos → ℕ
+index n p = flat n (slotOf n p)
+
+-- the index of a position, or that it lies on no face
+abbrev pub found : ℕ → Pos → Found
+found n p = pick (isOn (side n p)) (At (index n p)) NoFace
