@@ -24,6 +24,14 @@ sized-bounds n e =
     (λ t. absurd (true≢false (sym (rw t at e))))
     (λ t. (ltb-false n 1 t, leb-true n 104 (rw t at e)))
 
+-- a width that is not outside its range
+pub inside : (low high w : ℕ) → outside low high w ≡ false → (low ≤ w) × (w ≤ high)
+unfolding outside
+inside low high w e =
+    bool-cases (ltb w low)
+    (λ t. absurd (true≢false (rw t at e)))
+    (λ t. (ltb-false w low t, ltb-false high w (rw t at e)))
+
 -- what is known of a move that is taken and of a width in range
 pub record Fair (n : ℕ) (m : Move) : Type 0 where
   pub some : 1 ≤ m .turn

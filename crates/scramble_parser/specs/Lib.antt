@@ -1,0 +1,4 @@
+pub mod Token
+pub mod Words
+pub mod Parse
+pub mod ParseLaws
