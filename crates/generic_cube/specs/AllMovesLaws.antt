@@ -46,6 +46,12 @@ unfolding each
 each-append [] ys f = refl
 each-append (x ∷ xs) ys f = rw (each-append xs ys f) (sym (append-assoc (f x) (each xs f) (each ys f)))
 
+-- one element for each, itself
+pub each-self : (xs : List ℕ) → each xs (λ x. x ∷ []) ≡ xs
+unfolding each
+each-self [] = refl
+each-self (x ∷ xs) = ap (λ (l : List ℕ). x ∷ l) (each-self xs)
+
 -- `c` codes for each element
 pub length-each : (xs : List ℕ) (f : ℕ → List ℕ) (c : ℕ) → ((x : ℕ) → length (f x) ≡ c) → length (each xs f) ≡ length xs * c
 unfolding each

@@ -9,6 +9,7 @@ ghost use Rattle.scramble_parser.specs.Words.{wordsFrom};
 ghost use Rattle.scramble_parser.specs.Parse.{reading, ParseResult};
 ghost use Rattle.scramble_parser.specs.ParseLaws.{tally, prefix};
 
+pub mod lists;
 pub mod tokens;
 pub mod words;
 
