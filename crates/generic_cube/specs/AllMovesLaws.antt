@@ -7,7 +7,7 @@ use native.Mathlib.Omega.{arith}
 use native.Mathlib.Numerals.{add-one}
 use native.Mathlib.Nat.{mul-le-mul-right, suc-mul, zero-add, add-zero, add-suc}
 use lib.Dec.{eqb, ltb}
-use lib.ListN.{length, getD, take, drop, set, length-append, length-set}
+use lib.ListN.{length, getD, take, drop, set, length-append, length-set, take-append-drop}
 use lib.Seq.{sets, sets-eq, length-sets, take-suc, take-all, length-take-le}
 use borrow.Author.Tests.{ltb-false, ltb-true}
 use Rattle.ground.specs.Choice.{pick, bool-cases, any}
@@ -35,11 +35,18 @@ put-then {out} {mid} {new} {vs} {ws} {j} {r} {s} p q =
           ∙ sym (sets-append vs ws out j);
     }
 
+pub put-none : {out : List ℕ} {j : ℕ} → Put out j [] out j
+put-none {out} {j} = record { next = sym (add-zero j); stored = refl }
+
 pub put-one : {out : List ℕ} {j v x : ℕ} → v ≡ x → Put out j (x ∷ []) (set out j v) (j + 1)
 put-one {out} {j} {v} e = record { next = refl; stored = ap (set out j) e }
 
 pub put-length : {out new vs : List ℕ} {j r : ℕ} → Put out j vs new r → length new ≡ length out
 put-length {out} {new} {vs} {j} p = ap length (p .stored) ∙ length-sets out j vs
+
+-- what is left of the room
+pub put-room : {out new vs : List ℕ} {j r : ℕ} (m : ℕ) → Put out j vs new r → j + (length vs + m) ≤ length out → r + m ≤ length new
+put-room m p h = let e = p .next in let l = put-length p in omega arith
 
 each-append : (xs ys : List ℕ) (f : ℕ → List ℕ) → each (xs ++ ys) f ≡ each xs f ++ each ys f
 unfolding each
@@ -76,6 +83,21 @@ turn-at (suc zero) h = refl
 turn-at (suc (suc zero)) h = refl
 turn-at (suc (suc (suc t))) h = absurd (omega arith)
 
+-- one element on, and never more than all
+module _ (xs : List ℕ) (f : ℕ → List ℕ) (i : ℕ) where
+  pub each-upto : i < length xs → length (each (take (i + 1) xs) f) ≡ length (each (take i xs) f) + length (f (getD xs i 0))
+  unfolding each
+  each-upto h =
+      rw (add-one i, take-suc xs i 0 h, each-append (take i xs) (getD xs i 0 ∷ []) f, append-nil)
+      (length-append (each (take i xs) f) (f (getD xs i 0)))
+
+  pub each-most : length (each (take i xs) f) ≤ length (each xs f)
+  each-most =
+      let e : length (each xs f) ≡ length (each (take i xs) f) + length (each (drop i xs) f)
+      = ap (λ (l : List ℕ). length (each l f)) (sym (take-append-drop i xs))
+      ∙ ap length (each-append (take i xs) (drop i xs) f) ∙ length-append (each (take i xs) f) (each (drop i xs) f) in
+      omega arith
+
 -- the first i elements of a loop over xs are done, from place j of out₀ on; r is where the next goes
 pub record Looped (out₀ : List ℕ) (j : ℕ) (xs : List ℕ) (f : ℕ → List ℕ) (i : ℕ) (out : List ℕ) (r : ℕ) : Type 0 where
   pub most : i ≤ length xs
@@ -84,7 +106,7 @@ pub record Looped (out₀ : List ℕ) (j : ℕ) (xs : List ℕ) (f : ℕ → Lis
 module _ {out₀ : List ℕ} {j : ℕ} {xs : List ℕ} {f : ℕ → List ℕ} where
   pub loop-none : Looped out₀ j xs f 0 out₀ j
   unfolding each
-  loop-none = record { most = omega arith; put = record { next = sym (add-zero j); stored = refl } }
+  loop-none = record { most = omega arith; put = put-none }
 
   pub loop-more : {i x : ℕ} {out new : List ℕ} {r s : ℕ} → Looped out₀ j xs f i out r → i < length xs → x ≡ getD xs i 0
       → Put out r (f x) new s → Looped out₀ j xs f (i + 1) new s
@@ -99,6 +121,11 @@ module _ {out₀ : List ℕ} {j : ℕ} {xs : List ℕ} {f : ℕ → List ℕ} wh
   loop-all {i} {out} {r} l h = subst (λ (v : List ℕ). Put out₀ j (each v f) out r) (take-all i xs h) (l .put)
 
   -- there is room for the next, where there is for all
+  pub loop-fits : {i : ℕ} {out : List ℕ} {r : ℕ} → j + length (each xs f) ≤ length out₀ → Looped out₀ j xs f i out r → i < length xs
+      → r + length (f (getD xs i 0)) ≤ length out
+  loop-fits {i} {out} {r} room l h =
+      omega (arith, l .put .next, put-length (l .put), each-upto xs f i h, each-most xs f (i + 1))
+
   pub loop-room : (c : ℕ) {i : ℕ} {out : List ℕ} {r : ℕ} → ((x : ℕ) → length (f x) ≡ c) → j + length xs * c ≤ length out₀
       → Looped out₀ j xs f i out r → i < length xs → r + c ≤ length out
   loop-room c {i} {out} {r} u room l h =

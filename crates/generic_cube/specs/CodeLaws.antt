@@ -8,7 +8,7 @@ use native.Mathlib.Numerals.{add-one}
 use lib.Dec.{ltb, leb, eqb}
 use lib.ListN.{length, getD, drop, drop-of-length-le}
 use lib.Seq.{drop-cons}
-use borrow.Author.Tests.{eqb-false, eqb-true, ltb-false, ltb-true, le-ltb, lt-ltb, leb-true}
+use borrow.Author.Tests.{ne-eqb, eqb-false, eqb-true, ltb-false, ltb-true, le-ltb, lt-ltb, leb-true}
 use Rattle.ground.specs.Choice.{pick, bool-cases, any, any-none}
 use Rattle.generic_cube.specs.declared.Move.{Move}
 use Rattle.generic_cube.specs.declared.Code.{Code}
@@ -39,9 +39,10 @@ pub record Fair (n : ℕ) (m : Move) : Type 0 where
   pub kind : m .kind < 15
   pub width : m .width ≤ n
 
-pub fair : (n c : ℕ) → 1 ≤ n → badCode (moveOf c) ≡ false → badWidth n (moveOf c) ≡ false → Fair n (moveOf c)
-unfolding badCode outside isWide
-fair n c h e d =
+-- a code that is not refused has a turn and a kind
+pub code-bounds : (c : ℕ) → badCode (moveOf c) ≡ false → (1 ≤ c % 4) × (c / 4 % 16 < 15)
+unfolding badCode
+code-bounds c e =
     bool-cases (eqb (c % 4) 0)
     (λ t. absurd (true≢false (rw t at e)))
     (λ t. bool-cases (eqb (c / 4 % 16) 15)
@@ -49,17 +50,27 @@ fair n c h e d =
     (λ u.
     let a = eqb-false (c % 4) 0 t in
     let b = eqb-false (c / 4 % 16) 15 u in
-    record { some = omega arith; most = omega arith; kind = omega arith; width = small t u }))
+    (omega arith, omega arith)))
+
+-- and no width where its kind has none
+pub code-width : (c : ℕ) → badCode (moveOf c) ≡ false → isWide (c / 4 % 16) ≡ false → c / 64 ≡ 0
+unfolding badCode
+code-width c e w =
+    let k = code-bounds c e in
+    bool-cases (eqb (c / 64) 0)
+    (λ v. eqb-true (c / 64) 0 v)
+    (λ v. absurd (true≢false (rw (ne-eqb (c % 4) 0 (omega arith), ne-eqb (c / 4 % 16) 15 (omega arith), w, v) at e)))
+
+pub fair : (n c : ℕ) → 1 ≤ n → badCode (moveOf c) ≡ false → badWidth n (moveOf c) ≡ false → Fair n (moveOf c)
+fair n c h e d =
+    let k = code-bounds c e in
+    record { some = k .0; most = omega arith; kind = k .1; width = small }
   where
-    small : eqb (c % 4) 0 ≡ false → eqb (c / 4 % 16) 15 ≡ false → c / 64 ≤ n
-    small t u =
+    small : c / 64 ≤ n
+    small =
         bool-cases (isWide (c / 4 % 16))
-        (λ w. bool-cases (ltb (c / 64) 1)
-        (λ v. absurd (true≢false (rw (w, v) at d)))
-        (λ v. ltb-false n (c / 64) (rw (w, v) at d)))
-        (λ w. bool-cases (eqb (c / 64) 0)
-        (λ v. let z = eqb-true (c / 64) 0 v in omega arith)
-        (λ v. absurd (true≢false (rw (t, u, w, v) at e))))
+        (λ w. inside 1 n (c / 64) (rw w at d) .1)
+        (λ w. let z = code-width c e w in omega arith)
 
 -- a code that is taken is its move
 pub taken : (c : ℕ) (m : Move) → Taken m ≡ readCode c → (m ≡ moveOf c) × (badCode (moveOf c) ≡ false)

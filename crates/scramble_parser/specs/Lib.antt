@@ -2,6 +2,9 @@ pub mod Token
 pub mod Words
 pub mod Parse
 pub mod ParseLaws
+pub mod Room
 pub mod Lists
 pub mod SimplifyLaws
 pub mod ListLaws
+pub mod Write
+pub mod WriteLaws

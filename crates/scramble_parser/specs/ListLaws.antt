@@ -15,25 +15,9 @@ use Rattle.generic_cube.specs.Code.{listRefusal}
 use Rattle.generic_cube.specs.CodeLaws.{sized-bounds, list-fair}
 use Rattle.generic_cube.specs.declared.Answer.{Answer}
 use Rattle.generic_cube.specs.declared.Answer.the-variants.{Value, Refused}
-use Rattle.scramble_parser.specs.Lists.{simplify, Turned, inverseOf, inverse, fillRefusal, sameRefusal, simplifyOut, invertOut, SimplifyResult, InvertResult}
+use Rattle.scramble_parser.specs.Room.{Clear, clear}
+use Rattle.scramble_parser.specs.Lists.{simplify, Turned, inverseOf, inverse, sameRefusal, simplifyOut, invertOut, SimplifyResult, InvertResult}
 use Rattle.scramble_parser.specs.SimplifyLaws.{Shrunk}
-
--- nothing is refused
-pub record Clear (n number need room : ℕ) : Type 0 where
-  pub size : sized n ≡ true
-  pub none : number ≡ 0
-  pub fits : need ≤ room
-
-pub clear : (n number need room : ℕ) → fillRefusal n number need room ≡ 0 → Clear n number need room
-unfolding fillRefusal
-clear n number need room e =
-    bool-cases (sized n)
-    (λ s. bool-cases (eqb number 0)
-    (λ t. bool-cases (ltb room need)
-    (λ u. let z : _≡_ {A = ℕ} 6 0 = rw (s, t, u) at e in absurd (omega arith))
-    (λ u. record { size = s; none = eqb-true number 0 t; fits = ltb-false room need u }))
-    (λ t. absurd (eqb-false number 0 t (rw (s, t) at e))))
-    (λ s. let z : _≡_ {A = ℕ} 1 0 = rw s at e in absurd (omega arith))
 
 turned-all : (cs : List ℕ) → ((i : ℕ) → i < length cs → 0 < getD cs i 0 % 4) → Turned cs
 turned-all [] h = tt

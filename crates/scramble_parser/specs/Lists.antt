@@ -5,11 +5,12 @@ use mathlib.Core.Path.{_≡_}
 use mathlib.Core.Bool.{Bool, true, false}
 use mathlib.Core.List.{List, [], _∷_, _++_}
 use lib.ListN.{length, drop, replicate}
-use lib.Dec.{eqb, ltb}
+use lib.Dec.{eqb}
 use Rattle.ground.specs.Choice.{pick}
-use Rattle.generic_cube.specs.Numbers.{sized, answer}
+use Rattle.generic_cube.specs.Numbers.{answer}
 use Rattle.generic_cube.specs.Code.{listRefusal}
 use Rattle.generic_cube.specs.declared.Answer.{Answer}
+use Rattle.scramble_parser.specs.Room.{fillRefusal}
 
 -- ---- simplifying
 
@@ -76,10 +77,6 @@ inverse [] = []
 inverse (c ∷ cs) = inverse cs ++ inverseOf c ∷ []
 
 -- ---- refusals and results
-
--- 1: the size; then the list's own number; 6: the output has less than the room that is needed
-unfoldable pub fillRefusal : ℕ → ℕ → ℕ → ℕ → ℕ
-fillRefusal n number need room = pick (sized n) (pick (eqb number 0) (pick (ltb room need) 6 0) number) 1
 
 -- simplify and invert need output as long as the input
 abbrev pub sameRefusal : ℕ → List ℕ → ℕ → ℕ

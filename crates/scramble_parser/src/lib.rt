@@ -12,6 +12,7 @@ ghost use Rattle.scramble_parser.specs.ParseLaws.{tally, prefix};
 pub mod lists;
 pub mod tokens;
 pub mod words;
+pub mod write;
 
 // What a text reads as: how many moves, or the number of a refusal, for a bad token with the place where it starts.
 pub enum Parsed {

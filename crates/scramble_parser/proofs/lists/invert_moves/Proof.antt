@@ -1,8 +1,9 @@
 -- `invert_moves`: stored in order, where nothing is refused.
 use mathlib.Core.Path.{_≡_, sym, _∙_}
 use lib.ListN.{length}
+use Rattle.scramble_parser.specs.Room.{clear}
 use Rattle.scramble_parser.specs.Lists.{sameRefusal}
-use Rattle.scramble_parser.specs.ListLaws.{clear, clear-turned, invert-refused, inverted}
+use Rattle.scramble_parser.specs.ListLaws.{clear-turned, invert-refused, inverted}
 use borrow.Author.Needs.{needs}
 use Rattle.scramble_parser.proofs.lists.invert_moves.Statement.{statement}
 use Rattle.scramble_parser.proofs.lists.invert_moves.Tie as tie

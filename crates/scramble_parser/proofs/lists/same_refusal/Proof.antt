@@ -1,6 +1,6 @@
 use mathlib.Core.Path.{sym, _∙_}
 use borrow.Author.Tests.{eq-eqb, ne-eqb, lt-ltb, le-ltb}
-use Rattle.scramble_parser.specs.Lists.{fillRefusal}
+use Rattle.scramble_parser.specs.Room.{fillRefusal}
 use borrow.Author.Needs.{needs}
 use Rattle.scramble_parser.proofs.lists.same_refusal.Statement.{statement}
 use Rattle.scramble_parser.proofs.lists.same_refusal.Tie as tie

@@ -1,8 +1,9 @@
 -- `simplify_moves`: the stack, then zeros up to the input's length.
 use mathlib.Core.Path.{_≡_, sym, _∙_}
 use lib.ListN.{length}
+use Rattle.scramble_parser.specs.Room.{clear}
 use Rattle.scramble_parser.specs.Lists.{sameRefusal}
-use Rattle.scramble_parser.specs.ListLaws.{clear, clear-turned, simplify-refused, simplified}
+use Rattle.scramble_parser.specs.ListLaws.{clear-turned, simplify-refused, simplified}
 use native.Mathlib.Omega.{arith}
 use borrow.Author.Needs.{needs}
 use Rattle.scramble_parser.proofs.lists.simplify_moves.Statement.{statement}
