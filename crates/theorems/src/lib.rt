@@ -1,0 +1,2 @@
+// What no code needs: the theorems stand in specs/.
+pub fn nothing() {}
