@@ -1,1 +1,2 @@
 pub mod Simplified
+pub mod RoundTrip
