@@ -5,22 +5,27 @@ use mathlib.Core.Bool.{Bool, true, false, not, true≢false}
 use mathlib.Core.List.{List, [], _∷_, _++_, append-assoc, append-nil}
 use native.Mathlib.Omega.{arith}
 use lib.ListN.{length, getD, take, drop, length-append}
-use lib.Seq.{getD-append-seam, getD-append-add}
+use lib.Seq.{getD-append-seam, getD-append-add, take-append-seam}
 use lib.Dec.{ltb, eqb}
-use borrow.Author.Tests.{eq-eqb, ne-eqb, lt-ltb, le-ltb, eqb-true, eqb-false, ltb-true, ltb-false, not-true}
+use borrow.Author.Tests.{eq-eqb, ne-eqb, lt-ltb, le-ltb, lt-leb, eqb-true, eqb-false, ltb-true, ltb-false, not-true}
 use Rattle.ground.specs.Choice.{pick, bool-cases, position, any, any-append}
 use Rattle.generic_cube.specs.Code.{moveOf, isWide, badCode, readCode, outside, badWidthIn, refusalIn}
-use Rattle.generic_cube.specs.CodeLaws.{code-bounds, code-width, code-in, width-in, inside}
+use Rattle.generic_cube.specs.CodeLaws.{sized-bounds, code-bounds, code-width, code-in, width-in, inside}
 use Rattle.generic_cube.specs.AllMoves.{each, upFrom}
 use Rattle.generic_cube.specs.AllMovesLaws.{all-at, all-below}
 use Rattle.generic_cube.specs.declared.Code.the-variants.{Taken}
+use Rattle.generic_cube.specs.declared.Answer.the-variants.{Value, Refused}
+use Rattle.generic_cube.specs.Numbers.{sized, answer}
+use Rattle.scramble_parser.specs.declared.Parsed.{Parsed}
+use Rattle.scramble_parser.specs.declared.Parsed.the-variants.{Moves}
 use Rattle.scramble_parser.specs.declared.Token.{Token}
 use Rattle.scramble_parser.specs.declared.Token.the-variants.{Is}
 use Rattle.scramble_parser.specs.Token.{isSpace, kindLetters, letterOf, isFace, plainKind, markOf, digitOf, isDigit, digitsOf, numberOf, plainOf, wideOf, startsWide, readToken}
 use Rattle.scramble_parser.specs.Words.{Run, words, flush, wordsFrom}
-use Rattle.scramble_parser.specs.Parse.{Reading, codes, ahead, reading}
+use Rattle.scramble_parser.specs.Parse.{Reading, codes, ahead, reading, parseAnswer, parseOut, ParseResult}
 use Rattle.scramble_parser.specs.ParseLaws.{words-space, words-byte, words-end}
-use Rattle.scramble_parser.specs.Write.{kindByte, markText, widthText, tokenText, textOf, restText, listText}
+use Rattle.scramble_parser.specs.Write.{kindByte, markText, widthText, tokenText, textOf, restText, listText, writeRefusal, writeOut, WriteResult}
+use Rattle.scramble_parser.specs.Room.{fillRefusal, clear}
 use Rattle.scramble_parser.specs.WriteLaws.{mark-none, mark-half, mark-back, width-none, width-one, width-two, width-three}
 
 -- ---- a byte and what it reads as
@@ -187,3 +192,134 @@ token-back n c h e d =
     let y = code-width c e s in
     rw (text-of c e, s, f .byte) (plain-any n (pick (ltb (c / 4 % 16) 6) (c / 4 % 16) (c / 4 % 16 - 6)) (c % 4) (f .place) (q .0) (omega arith)
     ∙ ap (λ (k : ℕ). Is (k * 4 + c % 4)) (f .kind) ∙ ap Is (omega arith)))
+
+-- ---- no byte of a token is a space
+
+digit-space : (d : ℕ) → isSpace (48 + d) ≡ false
+unfolding isSpace
+digit-space d = simp (ne-eqb (48 + d) 32 (omega arith), le-ltb (48 + d) 9 (omega arith), lt-leb (48 + d) 13 (omega arith))
+
+width-space : (w : ℕ) → any isSpace (widthText w) ≡ false
+unfolding any
+width-space w =
+    bool-cases (eqb w 2) (λ e. rw (width-none (eqb-true w 2 e))) (λ e0.
+    bool-cases (ltb w 10) (λ e. rw (width-one (eqb-false w 2 e0) (ltb-true w 10 e), digit-space w)) (λ e1.
+    bool-cases (ltb w 100)
+    (λ e. rw (width-two (ltb-false w 10 e1) (ltb-true w 100 e), digit-space (w / 10), digit-space (w % 10)))
+    (λ e2. rw (width-three (ltb-false w 100 e2), digit-space (w / 100), digit-space (w / 10 % 10), digit-space (w % 10)))))
+
+token-space : (c : ℕ) → badCode (moveOf c) ≡ false → any isSpace (textOf c) ≡ false
+unfolding tokenText kindByte any isSpace
+token-space c e =
+    let q = code-bounds c e in
+    let z = marked (c % 4) (q .0) (omega arith) in
+    let p = pick (ltb (c / 4 % 16) 6) (c / 4 % 16) (c / 4 % 16 - 6) in
+    let b : any isSpace (getD kindLetters p 0 ∷ 119 ∷ markText (c % 4)) ≡ false = rw (letter-space p) (z .clear) in
+    bool-cases (isWide (c / 4 % 16))
+    (λ s. rw (text-of c e, s) (any-append isSpace (widthText (c / 64)) (getD kindLetters p 0 ∷ 119 ∷ markText (c % 4)) (width-space (c / 64)) b))
+    (λ s. rw (text-of c e, s, letter-space p) (z .clear))
+
+-- ---- the words of a text
+
+run-words : (at : ℕ) (cur tok rest : List ℕ) → any isSpace tok ≡ false → words at cur (tok ++ rest) ≡ words (at + length tok) (cur ++ tok) rest
+unfolding any
+run-words at cur [] rest h =
+    let e : at ≡ at + 0 = omega arith in
+    ap (λ (i : ℕ). words i cur rest) e ∙ ap (λ (l : List ℕ). words (at + 0) l rest) (sym (append-nil cur))
+run-words at cur (b ∷ tok) rest h =
+    let e : at + 1 + length tok ≡ at + suc (length tok) = omega arith in
+    bool-cases (isSpace b)
+    (λ t. absurd (true≢false (rw t at h)))
+    (λ t. words-byte at cur b (tok ++ rest) t ∙ run-words (at + 1) (cur ++ b ∷ []) tok rest (rw t at h)
+    ∙ ap (λ (i : ℕ). words i (cur ++ b ∷ [] ++ tok) rest) e
+    ∙ ap (λ (l : List ℕ). words (at + suc (length tok)) l rest) (append-assoc cur (b ∷ []) tok))
+
+flush-reading : (n at : ℕ) (tok : List ℕ) (ws : List Run) (c : ℕ) (cs : List ℕ) → readToken n tok ≡ Is c → reading n ws ≡ codes cs
+    → reading n (flush at tok ws) ≡ codes (c ∷ cs)
+unfolding reading readToken digitsOf isDigit digitOf startsWide isFace plainOf letterOf position
+flush-reading n at [] ws c cs e r = let y : _≡_ {A = ℕ} 0 1 = cc in absurd (omega arith)
+flush-reading n at (b ∷ tok) ws c cs e r =
+    ap (λ (t : Token). ahead t (at - length (b ∷ tok)) (reading n ws)) e
+    ∙ ap (λ (x : Reading). ahead (Is c) (at - length (b ∷ tok)) x) r
+
+-- ---- a list that the writer takes
+
+pub WritableList : ℕ → List ℕ → Type 0
+WritableList n [] = Unit {0}
+WritableList n (c ∷ cs) = (badCode (moveOf c) ≡ false) × (badWidthIn 2 (n - 1) (moveOf c) ≡ false) × WritableList n cs
+
+writable-all : (n : ℕ) (cs : List ℕ) → ((i : ℕ) → i < length cs → badCode (moveOf (getD cs i 0)) ≡ false)
+    → ((i : ℕ) → i < length cs → badWidthIn 2 (n - 1) (moveOf (getD cs i 0)) ≡ false) → WritableList n cs
+unfolding WritableList
+writable-all n [] f g = tt
+writable-all n (c ∷ cs) f g =
+    (f 0 (omega arith), g 0 (omega arith), writable-all n cs (λ i h. f (suc i) (omega arith)) (λ i h. g (suc i) (omega arith)))
+
+writable : (n : ℕ) (cs : List ℕ) → refusalIn 2 (n - 1) cs ≡ 0 → WritableList n cs
+writable n cs e = writable-all n cs (code-in 2 (n - 1) cs e) (width-in 2 (n - 1) cs e)
+
+-- a word that stands right before a space and a token for each code
+rest-back : (n at : ℕ) (tok : List ℕ) (c : ℕ) (cs : List ℕ) → n ≤ 104 → WritableList n cs → readToken n tok ≡ Is c
+    → reading n (words at tok (restText cs)) ≡ codes (c ∷ cs)
+unfolding WritableList restText each reading isSpace
+rest-back n at tok c [] h w t = ap (reading n) (words-end at tok) ∙ flush-reading n at tok [] c [] t refl
+rest-back n at tok c (d ∷ cs) h w t =
+    ap (reading n) (words-space at tok 32 (textOf d ++ restText cs) refl)
+    ∙ flush-reading n at tok (words (at + 1) [] (textOf d ++ restText cs)) c (d ∷ cs) t
+    (ap (reading n) (run-words (at + 1) [] (textOf d) (restText cs) (token-space d (w .0)))
+    ∙ rest-back n (at + 1 + length (textOf d)) (textOf d) d cs h (w .2) (token-back n d h (w .0) (w .1)))
+
+text-back : (n : ℕ) (cs : List ℕ) → n ≤ 104 → WritableList n cs → reading n (wordsFrom (listText cs) 0) ≡ codes cs
+unfolding WritableList listText reading
+text-back n [] h w = ap (reading n) (words-end 0 [])
+text-back n (c ∷ cs) h w =
+    ap (reading n) (run-words 0 [] (textOf c) (restText cs) (token-space c (w .0)))
+    ∙ rest-back n (0 + length (textOf c)) (textOf c) c cs h (w .2) (token-back n c h (w .0) (w .1))
+
+-- the text of a list that the writer takes reads as that list
+pub round-trip : (n : ℕ) (cs : List ℕ) → sized n ≡ true → refusalIn 2 (n - 1) cs ≡ 0 → reading n (wordsFrom (listText cs) 0) ≡ codes cs
+round-trip n cs s e = text-back n cs (sized-bounds n s .1) (writable n cs e)
+
+-- a count is answered exactly where nothing is refused
+taken-zero : (n : ℕ) (cs text : List ℕ) (k : ℕ) → Value k ≡ answer (writeRefusal n cs (length text)) (length (listText cs))
+    → (writeRefusal n cs (length text) ≡ 0) × (k ≡ length (listText cs))
+taken-zero n cs text k e =
+    bool-cases (eqb (writeRefusal n cs (length text)) 0)
+    (λ t. let q : Value k ≡ Value (length (listText cs)) = rw t at e in (eqb-true _ _ t, cc))
+    (λ t. let q : Value k ≡ Refused (writeRefusal n cs (length text)) = rw t at e in let y : _≡_ {A = ℕ} 0 1 = cc in absurd (omega arith))
+
+writable-clear : (n : ℕ) (cs : List ℕ) (room : ℕ) → writeRefusal n cs room ≡ 0 → (sized n ≡ true) × (refusalIn 2 (n - 1) cs ≡ 0)
+unfolding writeRefusal
+writable-clear n cs room e =
+    let k = clear n (refusalIn 2 (n - 1) cs) (length (listText cs)) room e in
+    (k .size, k .none)
+
+-- what `write_scramble` wrote, `parse_scramble` reads as the same list, wherever there is room for it
+pub record Back (cs out out′ : List ℕ) (r : Parsed) : Type 0 where
+  pub answered : r ≡ Moves (length cs)
+  pub written : out′ ≡ cs ++ drop (length cs) out
+
+pub read-back : (n k : ℕ) (cs text text′ out out′ : List ℕ) (r : Parsed) → WriteResult n cs text text′ (Value k)
+    → ParseResult n (take k text′) out out′ r → length cs ≤ length out → Back cs out out′ r
+unfolding writeOut parseAnswer parseOut
+read-back n k cs text text′ out out′ r w p h =
+    let z = taken-zero n cs text k (w .answered) in
+    let f = writable-clear n cs (length text) (z .0) in
+    let whole : take k text′ ≡ listText cs = rw (w .written, z .0, z .1) (take-append-seam (listText cs) (drop (length (listText cs)) text)) in
+    let b = round-trip n cs (f .0) (f .1) in
+    let l = le-ltb (length out) (length cs) h in
+    record {
+      answered = p .answered ∙ rw (whole, f .0, b, l);
+      written = p .written ∙ rw (whole, f .0, b, l);
+    }
+
+-- ---- the room: the text's length is exactly what is needed
+
+module _ (n : ℕ) (cs : List ℕ) (room : ℕ) (s : sized n ≡ true) (e : refusalIn 2 (n - 1) cs ≡ 0) where
+  pub room-enough : length (listText cs) ≤ room → writeRefusal n cs room ≡ 0
+  unfolding writeRefusal fillRefusal
+  room-enough h = rw (s, e, le-ltb room (length (listText cs)) h)
+
+  pub room-short : room < length (listText cs) → writeRefusal n cs room ≡ 6
+  unfolding writeRefusal fillRefusal
+  room-short h = rw (s, e, lt-ltb room (length (listText cs)) h)
