@@ -1,2 +1,3 @@
 pub mod Simplified
 pub mod RoundTrip
+pub mod Spelled

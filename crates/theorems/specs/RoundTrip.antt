@@ -54,7 +54,7 @@ pub record Marked (t : ℕ) : Type 0 where
   pub other : eqb (getD (markText t) 0 0) 119 ≡ false
   pub clear : any isSpace (markText t) ≡ false
 
-marked : (t : ℕ) → 1 ≤ t → t ≤ 3 → Marked t
+pub marked : (t : ℕ) → 1 ≤ t → t ≤ 3 → Marked t
 unfolding markOf markText isSpace any
 marked t l h =
     bool-cases (eqb t 1) (λ e. subst Marked (sym (eqb-true t 1 e)) is) (λ e1.
@@ -66,23 +66,23 @@ marked t l h =
     is : Marked 1
     is = record { size = refl; turn = refl; other = refl; clear = refl }
 
-digit-is : (d : ℕ) → d < 10 → isDigit (48 + d) ≡ true
+pub digit-is : (d : ℕ) → d < 10 → isDigit (48 + d) ≡ true
 unfolding isDigit
 digit-is d h = rw (digit-of d h, ne-eqb d 10 (omega arith))
 
-letter-is : (p : ℕ) → isDigit (getD kindLetters p 0) ≡ false
+pub letter-is : (p : ℕ) → isDigit (getD kindLetters p 0) ≡ false
 unfolding isDigit
 letter-is p = rw (letter-digit p)
 
 -- ---- a wide token: a width, a face's letter, `w` and a suffix
 
 -- one to three digits, the first not 0, and what follows them
-wide-read : (n w k : ℕ) (t : List ℕ) → digitsOf t ≡ k → 1 ≤ k → k ≤ 3 → (getD t 0 0 ≡ 48 → ⊥) → numberOf k t ≡ w → readToken n t ≡ wideOf n w t k
+pub wide-read : (n w k : ℕ) (t : List ℕ) → digitsOf t ≡ k → 1 ≤ k → k ≤ 3 → (getD t 0 0 ≡ 48 → ⊥) → numberOf k t ≡ w → readToken n t ≡ wideOf n w t k
 unfolding readToken
 wide-read n w k t d l h z e = rw (d, ne-eqb k 0 (omega arith), ne-eqb k 4 (omega arith), ne-eqb (getD t 0 0) 48 z, e)
 
 module _ (n p t : ℕ) (hp : p < 6) (lt : 1 ≤ t) (ht : t ≤ 3) where
-  wide-behind : (w : ℕ) (ds : List ℕ) → outside 2 (n - 1) w ≡ false
+  pub wide-behind : (w : ℕ) (ds : List ℕ) → outside 2 (n - 1) w ≡ false
       → wideOf n w (ds ++ getD kindLetters p 0 ∷ 119 ∷ markText t) (length ds) ≡ Is (w * 64 + (p + 6) * 4 + t)
   unfolding wideOf isFace
   wide-behind w ds o =
@@ -144,7 +144,7 @@ plain-any n p t hp lt ht =
 
 -- ---- a code that the writer takes
 
-text-of : (c : ℕ) → badCode (moveOf c) ≡ false → textOf c ≡ tokenText (moveOf c)
+pub text-of : (c : ℕ) → badCode (moveOf c) ≡ false → textOf c ≡ tokenText (moveOf c)
 unfolding readCode
 text-of c e = rw e
 
@@ -170,7 +170,7 @@ plain-kind k h w =
     let u = ltb-false k 12 (rw t at w) in
     rw t (record { place = omega arith; byte = rw t; kind = rw (le-ltb (k - 6) 6 (omega arith)) (omega arith) }))
 
-wide-byte : (k : ℕ) → 6 ≤ k → kindByte k ≡ getD kindLetters (k - 6) 0
+pub wide-byte : (k : ℕ) → 6 ≤ k → kindByte k ≡ getD kindLetters (k - 6) 0
 unfolding kindByte
 wide-byte k l = rw (le-ltb k 6 l)
 
