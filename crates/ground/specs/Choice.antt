@@ -3,14 +3,14 @@ use Prim.Native.Nat.{ℕ, zero, suc, _+_, _<_, _≤_}
 use mathlib.Core.Path.{_≡_, refl, ap, sym, _∙_}
 use mathlib.Core.Bool.{Bool, true, false, true≢false}
 use mathlib.Core.Logic.{⊎-elim}
-use mathlib.Core.List.{List, [], _∷_}
+use mathlib.Core.List.{List, [], _∷_, _++_}
 use native.Mathlib.Numerals.{add-one}
 use native.Mathlib.Omega.{arith}
 use native.Mathlib.Nat.{eq-or-lt-of-le}
 use lib.Dec.{eqb}
 use lib.ListN.{length, getD, drop, drop-of-length-le}
 use lib.Seq.{drop-cons}
-use borrow.Author.Tests.{eq-eqb, ne-eqb}
+use borrow.Author.Tests.{eq-eqb, ne-eqb, eqb-true}
 
 -- the first where the test holds, else the second
 abbrev pub pick {ℓ} : {A : Type ℓ} → Bool → A → A → A
@@ -71,6 +71,14 @@ any-none p (x ∷ xs) e zero h = bool-cases (p x) (λ t. absurd (true≢false (r
 any-none p (x ∷ xs) e (suc i) h =
     any-none p xs (bool-cases (p x) (λ t. absurd (true≢false (rw t at e))) (λ t. rw t at e)) i (omega arith)
 
+pub any-append : (p : ℕ → Bool) (xs ys : List ℕ) → any p xs ≡ false → any p ys ≡ false → any p (xs ++ ys) ≡ false
+unfolding any
+any-append p [] ys e d = d
+any-append p (x ∷ xs) ys e d =
+    bool-cases (p x)
+    (λ t. absurd (true≢false (rw t at e)))
+    (λ t. rw t (any-append p xs ys (rw t at e) d))
+
 -- the same for a place that is looked for
 module _ (b : ℕ) (xs : List ℕ) (i : ℕ) where
   pub position-here : i < length xs → getD xs i 0 ≡ b → position b (drop i xs) ≡ 0
@@ -90,6 +98,15 @@ unfolding position
 position-most b [] = omega arith
 position-most b (x ∷ xs) =
     bool-cases (eqb x b) (λ t. rw t (omega arith)) (λ t. rw t (omega (arith, position-most b xs)))
+
+-- what stands at the place that was found
+pub position-found : (b : ℕ) (xs : List ℕ) → position b xs < length xs → getD xs (position b xs) 0 ≡ b
+unfolding position
+position-found b [] h = absurd (omega arith)
+position-found b (x ∷ xs) h =
+    bool-cases (eqb x b)
+    (λ t. rw t (eqb-true x b t))
+    (λ t. rw t (position-found b xs (let k = rw t at h in omega arith)))
 
 -- whether the test holds of a number below m
 unfoldable pub anyBelow : (ℕ → Bool) → ℕ → Bool

@@ -1,3 +1,6 @@
 pub mod Signed
 pub mod PieceMap
 pub mod Rotations
+pub mod Simplified
+pub mod RoundTrip
+pub mod Spelled
