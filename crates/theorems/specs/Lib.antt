@@ -4,3 +4,4 @@ pub mod Rotations
 pub mod Simplified
 pub mod RoundTrip
 pub mod Spelled
+pub mod Effects
