@@ -45,11 +45,11 @@ fn letter_at(t: &[u8], i: usize) -> usize
 fn suffix(t: &[u8], i: usize) -> Mark
     ensures { λ r. ⌜ (r ≡ suffixAt (now (t .entry)) i) × (r .turn ≤ 3) × (r .size ≤ 1) ⌝ }
 {
-    let b = at(t, i);
-    if b == 50 {
+    let sign = at(t, i);
+    if sign == 50 {
         return Mark { turn: 2, size: 1 };
     }
-    if b == 39 {
+    if sign == 39 {
         return Mark { turn: 3, size: 1 };
     }
     Mark { turn: 1, size: 0 }

@@ -139,16 +139,16 @@ fn mark_len(turn: usize) -> usize
     1
 }
 
-fn width_len(w: usize) -> usize
-    ensures { λ r. ⌜ (r ≡ length (widthText w)) × (r ≤ 3) ⌝ }
+fn width_len(width: usize) -> usize
+    ensures { λ r. ⌜ (r ≡ length (widthText width)) × (r ≤ 3) ⌝ }
 {
-    if w == 2 {
+    if width == 2 {
         return 0;
     }
-    if w < 10 {
+    if width < 10 {
         return 1;
     }
-    if w < 100 {
+    if width < 100 {
         return 2;
     }
     3
