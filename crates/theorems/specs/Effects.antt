@@ -40,14 +40,14 @@ module _ (n : ℕ) (h : 0 < n) where
   joined-effect c d rest l g e =
       bool-cases (eqb (turnSum c d) 0)
       (λ t.
-        let z : turnSum c d ≡ 0 = eqb-true _ _ t in
-        ap (run n rest) (two c d 0 l e (sym z) ∙ moved-none n (moveOf c) 0 l h (omega arith) refl g)
-        ∙ ap (λ x. run n x l) (sym (join-vanish c d rest z)))
+      let z : turnSum c d ≡ 0 = eqb-true _ _ t in
+      ap (run n rest) (two c d 0 l e (sym z) ∙ moved-none n (moveOf c) 0 l h (omega arith) refl g)
+      ∙ ap (λ x. run n x l) (sym (join-vanish c d rest z)))
       (λ t.
-        let m : moveOf (joined c d) ≡ withTurn (moveOf c) (turnSum c d)
-              = same-move c (joined c d) (sym (joined-slot c d)) ∙ ap (withTurn (moveOf c)) (joined-turn c d) in
-        ap (run n rest) (two c d (turnSum c d) l e refl ∙ ap (λ x. moved n x l) (sym m))
-        ∙ ap (λ x. run n x l) (sym (join-stay c d rest (eqb-false _ _ t))))
+      let m : moveOf (joined c d) ≡ withTurn (moveOf c) (turnSum c d)
+      = same-move c (joined c d) (sym (joined-slot c d)) ∙ ap (withTurn (moveOf c)) (joined-turn c d) in
+      ap (run n rest) (two c d (turnSum c d) l e refl ∙ ap (λ x. moved n x l) (sym m))
+      ∙ ap (λ x. run n x l) (sym (join-stay c d rest (eqb-false _ _ t))))
 
   pub step-effect : {xs ys : List ℕ} → Step xs ys → (l : List ℕ) → length l ≡ stickers n → run n xs l ≡ run n ys l
   unfolding run
