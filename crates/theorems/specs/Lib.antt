@@ -5,3 +5,4 @@ pub mod Simplified
 pub mod RoundTrip
 pub mod Spelled
 pub mod Effects
+pub mod Cases
