@@ -40,19 +40,19 @@ pub record Task : Type 0 where
   pub barred : ℕ → ℕ → Bool
   pub candidates : List ℕ
 
-module _ (t : Task) where
-  -- a move that may not follow the one before
-  abbrev pub bars : Last → ℕ → Bool
-  bars start c = false
-  bars (after a) c = t .barred a c
+-- whether a move may not follow the one before
+unfoldable pub bars : (ℕ → ℕ → Bool) → Last → ℕ → Bool
+bars barred start c = false
+bars barred (after a) c = barred a c
 
+module _ (t : Task) where
   -- the source's `dfs` with so many moves left: a goal has number 0, tested before the bound; then each candidate that may follow
   unfoldable pub dfs : ℕ → Last → List ℕ → Reply
   dfs zero l s = pick (eqb (t .number s) 0) (found []) none
   dfs (suc k) l s =
       pick (eqb (t .number s) 0) (found [])
       (pick (ltb (suc k) (t .number s)) none
-      (first (λ c. pick (bars l c) none (led c (dfs k (after c) (t .moved c s)))) (t .candidates)))
+      (first (λ c. pick (bars (t .barred) l c) none (led c (dfs k (after c) (t .moved c s)))) (t .candidates)))
 
   -- the passes with 0, 1, .. moves, n of them, up to the first that finds a list
   unfoldable pub passes : ℕ → List ℕ → Reply

@@ -1,14 +1,16 @@
 -- What follows from an answer of the search, over any numbers; and allowed lists, move by move.
-use Prim.Native.Nat.{ℕ, zero, suc, _+_, _≤_, _<_, zero-le}
+use Prim.Native.Nat.{ℕ, zero, suc, _+_, _-_, _≤_, _<_, zero-le}
 use mathlib.Core.Path.{_≡_, refl, sym, ap, subst, _∙_}
 use mathlib.Core.Bool.{Bool, true, false, true≢false}
 use mathlib.Core.Logic.{_⊎_, inl, inr, ⊎-elim}
 use mathlib.Core.List.{List, [], _∷_, List·Memᴰ, List·Memᴰ·head, List·Memᴰ·tail}
 use native.Mathlib.Omega.{arith}
 use native.Mathlib.Numerals.{add-one}
+use native.Mathlib.Nat.{add-zero, add-suc}
 use lib.Dec.{eqb, ltb}
-use lib.ListN.{length, getD}
-use borrow.Author.Tests.{eqb-true, eqb-false, ltb-true, ltb-false}
+use lib.ListN.{length, getD, drop, drop-of-length-le}
+use lib.Seq.{drop-cons}
+use borrow.Author.Tests.{eqb-true, eqb-false, eq-eqb, ne-eqb, ltb-true, lt-ltb, le-ltb}
 use Rattle.ground.specs.Choice.{pick, bool-cases, position, position-cases, position-head}
 use Rattle.search_theory.specs.Search.{Reply, none, found, or, led, first, Last, start, after, Task, bars, dfs, passes, run, Allowed, Solves}
 
@@ -70,20 +72,64 @@ first-found f (x ∷ cs) {p} e =
         position-cases a x cs (λ h z. ap f (sym h) ∙ miss)
         (λ ea. position-cases (r .at) x cs (λ h z. absurd (omega arith)) (λ ec. r .before a (omega arith)))
 
+-- a walk that comes to place i: the first list of what is left
+module _ (f : ℕ → Reply) (cs : List ℕ) (i : ℕ) where
+  pub first-next : i < length cs → f (getD cs i 0) ≡ none → first f (drop i cs) ≡ first f (drop (i + 1) cs)
+  unfolding first or
+  first-next h e = rw (add-one i, drop-cons cs i 0 h, e)
+
+  pub first-here : {p : List ℕ} → i < length cs → f (getD cs i 0) ≡ found p → first f (drop i cs) ≡ found p
+  unfolding first or
+  first-here h e = rw (drop-cons cs i 0 h, e)
+
+  pub first-end : length cs ≤ i → first f (drop i cs) ≡ none
+  unfolding first
+  first-end h = rw (drop-of-length-le cs h)
+
 module _ (t : Task) where
   -- what a visit with k + 1 moves left tries at a candidate
   abbrev pub tried : ℕ → Last → List ℕ → ℕ → Reply
-  tried k l s c = pick (bars t l c) none (led c (dfs t k (after c) (t .moved c s)))
+  tried k l s c = pick (bars (t .barred) l c) none (led c (dfs t k (after c) (t .moved c s)))
 
-  pub tried-none : (k : ℕ) (l : Last) (s : List ℕ) (c : ℕ) → bars t l c ≡ false → tried k l s c ≡ none → dfs t k (after c) (t .moved c s) ≡ none
+  pub tried-none : (k : ℕ) (l : Last) (s : List ℕ) (c : ℕ) → bars (t .barred) l c ≡ false → tried k l s c ≡ none → dfs t k (after c) (t .moved c s) ≡ none
   tried-none k l s c free e =
-      picked (bars t l c) e (λ b h. absurd (true≢false (sym b ∙ free))) (λ b h. led-none c _ h)
+      picked (bars (t .barred) l c) e (λ b h. absurd (true≢false (sym b ∙ free))) (λ b h. led-none c _ h)
+
+  pub tried-barred : (k : ℕ) (l : Last) (s : List ℕ) (c : ℕ) → bars (t .barred) l c ≡ true → tried k l s c ≡ none
+  tried-barred k l s c e = rw e
+
+  pub tried-miss : (k : ℕ) (l : Last) (s : List ℕ) (c : ℕ) → bars (t .barred) l c ≡ false → dfs t k (after c) (t .moved c s) ≡ none → tried k l s c ≡ none
+  unfolding led
+  tried-miss k l s c e d = rw (e, d)
+
+  pub tried-hit : (k : ℕ) (l : Last) (s : List ℕ) (c : ℕ) {q : List ℕ} → bars (t .barred) l c ≡ false → dfs t k (after c) (t .moved c s) ≡ found q
+      → tried k l s c ≡ found (c ∷ q)
+  unfolding led
+  tried-hit k l s c e d = rw (e, d)
+
+  -- a visit: at a goal, above the bound, or the candidates
+  pub at-goal : (k : ℕ) (l : Last) (s : List ℕ) → t .number s ≡ 0 → dfs t k l s ≡ found []
+  unfolding dfs
+  at-goal zero l s e = rw (eq-eqb _ _ e)
+  at-goal (suc k) l s e = rw (eq-eqb _ _ e)
+
+  pub above : (k : ℕ) (l : Last) (s : List ℕ) → (t .number s ≡ 0 → ⊥) → k < t .number s → dfs t k l s ≡ none
+  unfolding dfs
+  above zero l s e h = rw (ne-eqb _ _ e)
+  above (suc k) l s e h = rw (ne-eqb _ _ e, lt-ltb _ _ h)
+
+  pub opened : (k : ℕ) (l : Last) (s : List ℕ) → (t .number s ≡ 0 → ⊥) → t .number s ≤ k → dfs t k l s ≡ first (tried (k - 1) l s) (t .candidates)
+  unfolding dfs
+  opened zero l s e h = absurd (e (omega arith))
+  opened (suc k) l s e h =
+      let d : suc k - 1 ≡ k = omega arith in
+      rw (ne-eqb _ _ e, le-ltb _ _ h, d)
 
   -- a list found with k + 1 moves left at a state that is no goal: a candidate before which none answers, and a list found from there
   pub record Way (k : ℕ) (l : Last) (s p : List ℕ) : Type 0 where
     pub at : ℕ
     pub member : List·Memᴰ at (t .candidates)
-    pub free : bars t l at ≡ false
+    pub free : bars (t .barred) l at ≡ false
     pub rest : List ℕ
     pub down : dfs t k (after at) (t .moved at s) ≡ found rest
     pub is : p ≡ at ∷ rest
@@ -91,7 +137,7 @@ module _ (t : Task) where
 
   way : {k : ℕ} {l : Last} {s p : List ℕ} → First (tried k l s) (t .candidates) p → Way k l s p
   way {k} {l} {s} {p} r =
-      picked (bars t l (r .at)) (r .hit) (λ b h. never h)
+      picked (bars (t .barred) l (r .at)) (r .hit) (λ b h. never h)
       (λ b h.
       let w = led-found (r .at) (dfs t k (after (r .at)) (t .moved (r .at) s)) h in
       record { at = r .at; member = r .member; free = b; rest = w .0; down = w .1; is = w .2; before = r .before })
@@ -120,7 +166,7 @@ module _ (t : Task) where
   -- a list that may follow a move: as `Allowed`, move by move
   abbrev pub Follows : Last → List ℕ → Type 0
   Follows l [] = Unit {0}
-  Follows l (c ∷ q) = List·Memᴰ c (t .candidates) × (bars t l c ≡ false) × Follows (after c) q
+  Follows l (c ∷ q) = List·Memᴰ c (t .candidates) × (bars (t .barred) l c ≡ false) × Follows (after c) q
 
   -- a list that may follow a move, and reaches a goal
   pub record Ends (l : Last) (s q : List ℕ) : Type 0 where
@@ -133,6 +179,7 @@ module _ (t : Task) where
 
   -- it stays so where no move stands before it
   pub freed : (l : Last) (q : List ℕ) → Follows l q → Follows start q
+  unfolding bars
   freed l [] f = tt
   freed l (c ∷ q) f = (f .0, refl, f .2)
 
@@ -142,6 +189,7 @@ module _ (t : Task) where
   follows-candidate l (c ∷ q) f (suc i) h = follows-candidate (after c) q (f .2) i (omega arith)
 
   follows-apart : (l : Last) (q : List ℕ) → Follows l q → (i : ℕ) → suc i < length q → t .barred (getD q i 0) (getD q (suc i) 0) ≡ false
+  unfolding bars
   follows-apart l [] f i h = absurd (omega arith)
   follows-apart l (c ∷ []) f i h = absurd (omega arith)
   follows-apart l (c ∷ d ∷ q) f zero h = f .2 .1
@@ -154,10 +202,12 @@ module _ (t : Task) where
   allowed-tail c q a = record { candidate = λ i h. a .candidate (suc i) (omega arith); apart = λ i h. a .apart (suc i) (omega arith) }
 
   follows-from : (c : ℕ) (q : List ℕ) → Allowed t (c ∷ q) → Follows (after c) q
+  unfolding bars
   follows-from c [] a = tt
   follows-from c (d ∷ q) a = (a .candidate 1 (omega arith), a .apart 0 (omega arith), follows-from d q (allowed-tail c (d ∷ q) a))
 
   pub allowed-follows : (q : List ℕ) → Allowed t q → Follows start q
+  unfolding bars
   allowed-follows [] a = tt
   allowed-follows (c ∷ q) a = (a .candidate 0 (omega arith), refl, follows-from c q a)
 
@@ -185,3 +235,13 @@ module _ (t : Task) where
       there y r =
           subst (Sound (suc k) l s) (sym (y .is))
           (record { ends = record { follows = (y .member, y .free, r .ends .follows); goal = r .ends .goal }; within = omega (arith, r .within) })
+
+  -- the passes: one more, and that a list once found stays
+  pub pass-next : (n : ℕ) (s : List ℕ) {r : Reply} → passes t n s ≡ none → dfs t n start s ≡ r → passes t (n + 1) s ≡ r
+  unfolding passes or
+  pass-next n s e d = rw (add-one n, e, d)
+
+  pub pass-stays : (n m : ℕ) (s : List ℕ) {p : List ℕ} → passes t n s ≡ found p → passes t (n + m) s ≡ found p
+  unfolding passes or
+  pass-stays n zero s e = rw (add-zero n) e
+  pass-stays n (suc m) s e = rw (add-suc n m, pass-stays n m s e)
