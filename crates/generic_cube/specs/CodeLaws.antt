@@ -88,6 +88,14 @@ module _ (n : ℕ) (cs : List ℕ) (e : listRefusal n cs ≡ 0) where
   list-fair i k h =
       fair n (getD cs i 0) k (list-code i h) (any-none (λ c. badWidth n (moveOf c)) cs list-widths i h)
 
+  -- so a walker that takes its code apart has that move, and meets no refusal
+  pub list-taken : {i : ℕ} {m : Move} → 1 ≤ n → i < length cs → Taken m ≡ readCode (getD cs i 0) → (m ≡ moveOf (getD cs i 0)) × Fair n m
+  list-taken {i} {m} k h t =
+      let q = taken (getD cs i 0) m t .0 in (q, subst (Fair n) (sym q) (list-fair i k h))
+
+  pub list-reads : {i k : ℕ} → i < length cs → Refused k ≡ readCode (getD cs i 0) → ⊥
+  list-reads {i} {k} h t = true≢false (sym (refused (getD cs i 0) k t) ∙ list-code i h)
+
 -- the walk: `r` is what was remembered, and the first code that is refused ends it
 unfoldable pub walked : ℕ → ℕ → List ℕ → ℕ
 walked n r [] = r

@@ -9,7 +9,7 @@ use Rattle.sticker.specs.declared.Pos.{Pos}
 use Rattle.sticker.specs.Place.{neg, at3}
 use Rattle.sticker.specs.PlaceLaws.{InCube, pos-eq}
 use Rattle.geometric_moves.specs.declared.Rotation.{Rotation}
-use Rattle.geometric_moves.specs.Turn.{toward, rotate, rot, identity, rotX, rotY, rotZ, opposite, facing, thenRot, whither, inverseRot, turnOf, quarterOf}
+use Rattle.geometric_moves.specs.Turn.{toward, rotate, rot, identity, rotX, rotY, rotZ, opposite, facing, thenRot, sameFace, whither, inverseRot, turnOf, quarterOf}
 
 -- the three quarter turns of the type are document 01's
 pub quarter-X : (n : ℕ) (p : Pos) → rotate n rotX p ≡ at3 (p .x) (p .z) (neg n (p .y))
@@ -65,6 +65,14 @@ identity-then r = rot-eq (facing-identity (r .x)) (facing-identity (r .y)) (faci
 pub then-identity : (r : Rotation) → thenRot r identity ≡ r
 then-identity r = refl
 
+pub turn-one : (r : Rotation) → turnOf 1 r ≡ r
+unfolding turnOf
+turn-one r = identity-then r
+
+pub turn-two : (r : Rotation) → turnOf 2 r ≡ thenRot r r
+unfolding turnOf
+turn-two r = ap (λ s. thenRot s r) (identity-then r)
+
 -- turns add up
 pub turn-add : (a b : ℕ) (r : Rotation) → turnOf (a + b) r ≡ thenRot (turnOf a r) (turnOf b r)
 unfolding turnOf
@@ -74,7 +82,7 @@ turn-add a (suc b) r =
 
 -- four quarters are none
 turn-four : (f : Face) → turnOf 4 (quarterOf f) ≡ identity
-unfolding turnOf quarterOf inverseRot whither
+unfolding turnOf quarterOf inverseRot whither sameFace
 turn-four U = refl
 turn-four R = refl
 turn-four F = refl
@@ -99,7 +107,7 @@ turn-mod f a b e =
 
 -- a turn about an axis keeps the axis
 quarter-axis : (f : Face) → facing (quarterOf f) f ≡ f
-unfolding quarterOf inverseRot whither
+unfolding quarterOf inverseRot whither sameFace
 quarter-axis U = refl
 quarter-axis R = refl
 quarter-axis F = refl

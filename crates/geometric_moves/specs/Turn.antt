@@ -14,6 +14,7 @@ use Rattle.sticker.specs.declared.Face.the-variants.{U, R, F, D, L, B}
 use Rattle.sticker.specs.declared.Pos.{Pos}
 use Rattle.sticker.specs.Place.{top, neg, at3, numOf, side, isOn, place, index}
 use Rattle.geometric_moves.specs.declared.Rotation.{Rotation}
+use Rattle.geometric_moves.specs.declared.GeometricMove.{GeometricMove}
 
 -- the coordinate of p along the half axis that points to a face
 abbrev pub toward : ℕ → Pos → Face → ℕ
@@ -65,10 +66,10 @@ facing r B = opposite (r .z)
 abbrev pub thenRot : Rotation → Rotation → Rotation
 thenRot r s = rot (facing r (s .x)) (facing r (s .y)) (facing r (s .z))
 
--- the half axis to which r brings f
-abbrev pub sameFace : Face → Face → Bool
+unfoldable pub sameFace : Face → Face → Bool
 sameFace f g = eqb (numOf f) (numOf g)
 
+-- the half axis to which r brings f
 unfoldable pub whither : Rotation → Face → Face
 whither r f =
     pick (sameFace (r .x) f) R
@@ -118,17 +119,27 @@ unfoldable pub widthOf : ℕ → ℕ → ℕ → ℕ
 widthOf n kind width = pick (ltb kind 6) 1 (pick (ltb kind 12) width n)
 
 -- with width w, U takes y ≥ n-2w; the other faces the same in the coordinate c towards them
-unfoldable pub layer : ℕ → ℕ → ℕ → ℕ → Bool
-layer n kind width c = leb (top n) (c + 2 * widthOf n kind width)
+unfoldable pub layer : ℕ → ℕ → ℕ → Bool
+layer n w c = leb (top n) (c + 2 * w)
 
 -- a rotation of those stickers alone whose coordinate towards f passes a test
 abbrev pub via : ℕ → Face → (ℕ → Bool) → Rotation → Pos → Pos
 via n f test r p = pick (test (toward n p f)) (rotate n r p) p
 
+-- a move as the source's GeometricMove has it: the layers' face and width, and the rotation
+abbrev pub geometric : ℕ → Move → GeometricMove
+geometric n m = record {
+  face = kindFace (m .kind);
+  width = widthOf n (m .kind) (m .width);
+  rotation = turnOf (m .turn) (quarterOf (kindFace (m .kind)));
+}
+
+abbrev pub turnedBy : ℕ → GeometricMove → Pos → Pos
+turnedBy n g p = via n (g .face) (layer n (g .width)) (g .rotation) p
+
 -- where a move brings the sticker at p
 abbrev pub turned : ℕ → Move → Pos → Pos
-turned n m p =
-    via n (kindFace (m .kind)) (layer n (m .kind) (m .width)) (turnOf (m .turn) (quarterOf (kindFace (m .kind)))) p
+turned n m p = turnedBy n (geometric n m) p
 
 -- the same for stored places
 unfoldable pub target : ℕ → Move → ℕ → ℕ
@@ -155,11 +166,11 @@ run n [] l = l
 run n (c ∷ cs) l = run n cs (moved n (moveOf c) l)
 
 -- 11: a turned position lies on no face
-abbrev pub offAt : ℕ → Move → ℕ → Bool
-offAt n m j = not (isOn (side n (turned n m (place n j))))
+abbrev pub offAt : ℕ → GeometricMove → ℕ → Bool
+offAt n g j = not (isOn (side n (turnedBy n g (place n j))))
 
 abbrev pub offFace : ℕ → Move → Bool
-offFace n m = anyBelow (offAt n m) (stickers n)
+offFace n m = anyBelow (offAt n (geometric n m)) (stickers n)
 
 unfoldable pub listOff : ℕ → List ℕ → Bool
 listOff n cs = any (λ c. offFace n (moveOf c)) cs

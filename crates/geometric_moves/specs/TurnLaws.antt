@@ -5,17 +5,22 @@ use mathlib.Core.Path.{_≡_, refl, ap, sym, subst, _∙_}
 use mathlib.Core.Bool.{Bool, true, false, not, true≢false}
 use mathlib.Core.List.{List, [], _∷_}
 use native.Mathlib.Omega.{arith}
+use lib.Dec.{ltb}
 use Rattle.ground.specs.Choice.{pick, bool-cases}
 use Rattle.generic_cube.specs.declared.Move.{Move}
 use Rattle.generic_cube.specs.Numbers.{stickers}
+use Rattle.generic_cube.specs.CodeLaws.{Fair}
 use Rattle.sticker.specs.declared.Face.{Face}
 use Rattle.sticker.specs.declared.Face.the-variants.{U, R, F, D, L, B}
 use Rattle.sticker.specs.declared.Pos.{Pos}
 use Rattle.sticker.specs.declared.Slot.{Slot}
-use Rattle.sticker.specs.Place.{neg, mid, seat, placeOf, side, isOn, place, index}
-use Rattle.sticker.specs.PlaceLaws.{InCube, sticker-in, pos-eq, Real, Sticker, sticker-on, place-sticker, place-index, index-place, index-below}
+use Rattle.sticker.specs.declared.Found.{Found}
+use Rattle.sticker.specs.declared.Found.the-variants.{At, NoFace}
+use Rattle.sticker.specs.Place.{neg, mid, seat, placeOf, side, isOn, place, index, found}
+use Rattle.sticker.specs.PlaceLaws.{InCube, Inside, sticker-in, pos-eq, Real, Sticker, sticker-on, found-on, found-off, place-sticker, place-index, index-place, index-below}
 use Rattle.geometric_moves.specs.declared.Rotation.{Rotation}
-use Rattle.geometric_moves.specs.Turn.{toward, rotate, rot, identity, rotX, rotY, rotZ, facing, thenRot, whither, inverseRot, turnOf, quarterOf, kindFace, layer, via, turned, target, withTurn, back, source}
+use Rattle.geometric_moves.specs.declared.GeometricMove.{GeometricMove}
+use Rattle.geometric_moves.specs.Turn.{toward, rotate, rot, identity, rotX, rotY, rotZ, facing, thenRot, sameFace, whither, inverseRot, turnOf, quarterOf, kindFace, widthOf, layer, via, geometric, turnedBy, turned, target, withTurn, back, source, offAt}
 use Rattle.geometric_moves.specs.RotationLaws.{toward-rotate, rotate-then, turn-add, turn-mod, turn-axis}
 
 -- the sticker in column c and row r of face f
@@ -74,7 +79,7 @@ keeps-turn (suc t) r k = keeps-then (turnOf t r) r (keeps-turn t r k) k
 
 -- the turn back about an axis is three turns
 keeps-quarter : (f : Face) → Keeps (quarterOf f)
-unfolding quarterOf inverseRot whither turnOf
+unfolding quarterOf inverseRot whither sameFace turnOf
 keeps-quarter U = keeps-seat rotY seat-Y
 keeps-quarter R = keeps-seat rotX seat-X
 keeps-quarter F = keeps-seat rotZ seat-Z
@@ -114,7 +119,7 @@ via-none n f test p = go (test (toward n p f))
 -- a turned sticker is a sticker, whatever the move
 pub turned-sticker : (n : ℕ) (m : Move) (p : Pos) → Sticker n p → Sticker n (turned n m p)
 turned-sticker n m p s =
-    via-sticker n (kindFace (m .kind)) (layer n (m .kind) (m .width)) (turnOf (m .turn) (quarterOf (kindFace (m .kind)))) p
+    via-sticker n (kindFace (m .kind)) (layer n (widthOf n (m .kind) (m .width))) (turnOf (m .turn) (quarterOf (kindFace (m .kind)))) p
     (keeps-turn (m .turn) (quarterOf (kindFace (m .kind))) (keeps-quarter (kindFace (m .kind)))) s
 
 -- stored places
@@ -133,7 +138,7 @@ pub target-add : (n : ℕ) (m : Move) (a b c j : ℕ) → 0 < n → (a + b) % 4 
 unfolding target
 target-add n m a b c j h e =
     let f = kindFace (m .kind) in
-    let test = layer n (m .kind) (m .width) in
+    let test = layer n (widthOf n (m .kind) (m .width)) in
     let s = place-sticker n j h in
     ap (λ p. index n (turned n (withTurn m b) p)) (target-place n (withTurn m a) j h)
     ∙ ap (index n) (via-add n f test a b (place n j) (sticker-in n _ s)
@@ -142,4 +147,90 @@ target-add n m a b c j h e =
 pub target-none : (n : ℕ) (m : Move) (j : ℕ) → 0 < n → j < stickers n → target n (withTurn m 0) j ≡ j
 unfolding target
 target-none n m j h k =
-    ap (index n) (via-none n (kindFace (m .kind)) (layer n (m .kind) (m .width)) (place n j)) ∙ index-place n j h k
+    ap (index n) (via-none n (kindFace (m .kind)) (layer n (widthOf n (m .kind) (m .width))) (place n j)) ∙ index-place n j h k
+
+-- what the test of a layer asks: a cube's size, a width, a coordinate
+pub record Reach (n w c : ℕ) : Type 0 where
+  pub size : n ≤ 104
+  pub wide : w ≤ 104
+  pub within : c ≤ 2 * n
+
+-- a size in range
+pub record Sized (n : ℕ) : Type 0 where
+  pub some : 0 < n
+  pub size : n ≤ 104
+
+-- what turning a position asks
+pub record Turns (n : ℕ) (g : GeometricMove) (p : Pos) : Type 0 where
+  pub inside : Inside n p
+  pub wide : g .width ≤ 104
+
+-- a geometric move whose turned positions are stickers
+pub record Kept (n : ℕ) (g : GeometricMove) : Type 0 where
+  pub sized : Sized n
+  pub wide : g .width ≤ 104
+  pub keeps : Keeps (g .rotation)
+
+pub kept-sticker : {n : ℕ} {g : GeometricMove} → Kept n g → (p : Pos) → Sticker n p → Sticker n (turnedBy n g p)
+kept-sticker {n} {g} k p s = via-sticker n (g .face) (layer n (g .width)) (g .rotation) p (k .keeps) s
+
+toward-within : (n : ℕ) (p : Pos) → InCube n p → (f : Face) → toward n p f ≤ 2 * n
+toward-within n p h U = h .y-in
+toward-within n p h R = h .x-in
+toward-within n p h F = h .z-in
+toward-within n p h D = omega arith
+toward-within n p h L = omega arith
+toward-within n p h B = omega arith
+
+pub reach : {n : ℕ} {g : GeometricMove} {p : Pos} {c : ℕ} (f : Face) → Turns n g p → c ≡ toward n p f → Reach n (g .width) c
+reach {n} {g} {p} {c} f t e =
+    record { size = t .inside .size; wide = t .wide; within = omega (arith, toward-within n p (t .inside .cube) f) }
+
+width-small : (n kind width : ℕ) → 0 < n → n ≤ 104 → width ≤ n → widthOf n kind width ≤ 104
+unfolding widthOf
+width-small n kind width h k w =
+    bool-cases (ltb kind 6) (λ t. rw t (omega arith)) (λ t. bool-cases (ltb kind 12) (λ u. rw (t, u) (omega arith)) (λ u. rw (t, u) k))
+
+pub geometric-kept : {n : ℕ} {m : Move} {g : GeometricMove} → Sized n → Fair n m → g ≡ geometric n m → Kept n g
+geometric-kept {n} {m} {g} z f e =
+    subst (Kept n) (sym e)
+    (record {
+      sized = z;
+      wide = width-small n (m .kind) (m .width) (z .some) (z .size) (f .width);
+      keeps = keeps-turn (m .turn) (quarterOf (kindFace (m .kind))) (keeps-quarter (kindFace (m .kind)));
+    })
+
+-- the code's steps: a position turned, or left where it is
+module _ (n : ℕ) (g : GeometricMove) (p : Pos) {c : ℕ} {b : Bool} (e : c ≡ toward n p (g .face)) (d : b ≡ layer n (g .width) c) where
+  pub turned-in : b ≡ true → rotate n (g .rotation) p ≡ turnedBy n g p
+  turned-in t = ap (λ x. pick x (rotate n (g .rotation) p) p) (sym t ∙ d ∙ ap (layer n (g .width)) e)
+
+  pub turned-out : b ≡ false → p ≡ turnedBy n g p
+  turned-out t = ap (λ x. pick x (rotate n (g .rotation) p) p) (sym t ∙ d ∙ ap (layer n (g .width)) e)
+
+-- a move's parts
+pub geometric-is : (n : ℕ) (m : Move) {f : Face} {w : ℕ} {q r : Rotation} → f ≡ kindFace (m .kind) → w ≡ widthOf n (m .kind) (m .width)
+    → q ≡ quarterOf f → r ≡ turnOf (m .turn) q → _≡_ {A = GeometricMove} (record { face = f; width = w; rotation = r }) (geometric n m)
+geometric-is n m {f} {w} {q} {r} a b c d =
+    let e : r ≡ turnOf (m .turn) (quarterOf (kindFace (m .kind))) = d ∙ ap (turnOf (m .turn)) (c ∙ ap quarterOf a) in
+    λ i. record { face = a i; width = b i; rotation = e i }
+
+-- a sticker's place may be turned, and then looked up
+module _ {n : ℕ} {g : GeometricMove} {p : Pos} (j : ℕ) (k : Kept n g) (e : p ≡ place n j) where
+  at-place : Sticker n p
+  at-place = subst (Sticker n) (sym e) (place-sticker n j (k .sized .some))
+
+  pub may-turn : Turns n g p
+  may-turn = record { inside = record { size = k .sized .size; cube = sticker-in n p at-place }; wide = k .wide }
+
+  pub may-find : {q : Pos} → q ≡ turnedBy n g p → Inside n q
+  may-find {q} d =
+      record { size = k .sized .size; cube = sticker-in n q (subst (Sticker n) (sym d) (kept-sticker k p at-place)) }
+
+-- what a target that is looked up says of the sticker at j
+module _ (n : ℕ) (g : GeometricMove) (j : ℕ) where
+  pub target-on : {i : ℕ} → At i ≡ found n (turnedBy n g (place n j)) → offAt n g j ≡ false
+  target-on d = ap not (found-on n (turnedBy n g (place n j)) d .0)
+
+  pub target-off : NoFace ≡ found n (turnedBy n g (place n j)) → offAt n g j ≡ true
+  target-off d = ap not (found-off n (turnedBy n g (place n j)) d)

@@ -6,7 +6,7 @@ use native.Mathlib.Omega.{arith}
 use native.Mathlib.Nat.{mul-add-div-right, mul-add-mod-self-right, div-eq-of-lt, mod-eq-of-lt, add-zero, mul-le-mul, mul-le-mul-left, mul-le-mul-right, div-add-mod', mod-lt, div-lt-iff-lt-mul, suc-mul}
 use lib.Dec.{eqb}
 use borrow.Author.Tests.{eq-eqb, ne-eqb}
-use Rattle.ground.specs.Choice.{pick}
+use Rattle.ground.specs.Choice.{pick, bool-cases}
 use Rattle.sticker.specs.declared.Face.{Face}
 use Rattle.sticker.specs.declared.Face.the-variants.{U, R, F, D, L, B}
 use Rattle.sticker.specs.declared.Side.{Side}
@@ -248,3 +248,16 @@ slot-in n p B h = omega arith
 
 pub slot-small : (n : ℕ) (p : Pos) (f : Face) (s : Slot) → InCube n p → s ≡ slotOn n p f → Small n s
 slot-small n p f s h e = subst (Small n) (sym e) (slot-in n p f h)
+
+-- an index is found exactly on a face
+pub found-on : (n : ℕ) (p : Pos) {k : ℕ} → At k ≡ found n p → (isOn (side n p) ≡ true) × (k ≡ index n p)
+found-on n p {k} e =
+    bool-cases (isOn (side n p))
+    (λ t. let q : At k ≡ At (index n p) = rw t at e in (t, cc))
+    (λ t. let q : At k ≡ NoFace = rw t at e in let z : _≡_ {A = ℕ} 0 1 = cc in absurd (omega arith))
+
+pub found-off : (n : ℕ) (p : Pos) → NoFace ≡ found n p → isOn (side n p) ≡ false
+found-off n p e =
+    bool-cases (isOn (side n p))
+    (λ t. let q : NoFace ≡ At (index n p) = rw t at e in let z : _≡_ {A = ℕ} 0 1 = cc in absurd (omega arith))
+    (λ t. t)

@@ -1,0 +1,104 @@
+-- `list_off`: no move passed brought a sticker to a position on no face.
+use Prim.Native.Nat.{_-_, _≤_}
+use mathlib.Core.Path.{_≡_, refl, sym, ap, _∙_}
+use lib.ListN.{length, getD, drop}
+use Rattle.ground.specs.Choice.{any, any-here, any-next, any-end}
+use Rattle.generic_cube.specs.Code.{moveOf}
+use Rattle.generic_cube.specs.CodeLaws.{Fair, list-taken, list-reads}
+use Rattle.geometric_moves.specs.Turn.{offFace, listOff}
+use native.Mathlib.Omega.{arith}
+use borrow.Author.Needs.{needs}
+use Rattle.geometric_moves.proofs.list_off.Statement.{statement}
+use Rattle.geometric_moves.proofs.list_off.Tie as tie
+
+abbrev Inv-loop : tie.InvT-loop
+Inv-loop n list i₀ i = (i ≤ length list) × (listOff n list ≡ any (λ c. offFace n (moveOf c)) (drop i list))
+
+abbrev μ-loop : tie.MeasureT-loop
+μ-loop n list i₀ i = length list - i
+
+-- the move that was read is the code's, and fair
+read : (c : tie.After-known-told Inv-loop μ-loop) →
+    let b = c .before .before .before .before .before .before in
+    let a = b .before .before .args in
+    (c .before .m .given .0 .0 ≡ moveOf (getD (a .list .now) (b .loop .i) 0)) × Fair (a .n) (c .before .m .given .0 .0)
+read c =
+    let b = c .before .before .before .before .before in
+    let s = b .before .before .before in
+    list-taken (s .args .n) (s .args .list .now) (s .pre .1) (s .pre .0 .some) (b .loop-test .taken)
+    (sym (c .before .m .given .1) ∙ c .before .before .before .read-code .ensures)
+
+loop-holds : tie.Need-loop-holds Inv-loop μ-loop
+unfolding listOff
+loop-holds c = (omega arith, refl)
+
+mul-read-code : tie.Need-mul-read-code Inv-loop μ-loop
+mul-read-code c = omega arith
+
+shared-slice-read-read-code : tie.Need-shared-slice-read-read-code Inv-loop μ-loop
+shared-slice-read-read-code c = omega arith
+
+read-code-requires : tie.Need-read-code-requires Inv-loop μ-loop
+read-code-requires c κs = search needs
+
+enum-known-m : tie.Need-enum-known-m Inv-loop μ-loop
+enum-known-m c = search needs
+
+enum-told : tie.Need-enum-told Inv-loop μ-loop
+enum-told c = search needs
+
+returns : tie.Need-returns Inv-loop μ-loop
+returns c =
+    let b = c .before .before .before .before in
+    let s = b .before .before .before in
+    absurd (list-reads (s .args .n) (s .args .list .now) (s .pre .1) (b .loop-test .taken)
+    (sym (c .enum-told .given .1) ∙ c .before .before .read-code .ensures))
+
+is-off-face-requires : tie.Need-is-off-face-requires Inv-loop μ-loop
+is-off-face-requires c κs = (c .before .before .before .before .before .before .before .before .pre .0, read c .1)
+
+returns-2 : tie.Need-returns-2 Inv-loop μ-loop
+returns-2 c =
+    let l = c .before .before .before .before .before .before .before .before .loop in
+    let a = c .before .before .before .before .before .before .before .before .before .before .args in
+    let t = sym (c .before .is-off-face .ensures ∙ ap (offFace (a .n)) (read (c .before .before) .0)) ∙ c .if1 .taken in
+    sym (l .inv .1 ∙ any-here (λ x. offFace (a .n) (moveOf x)) (a .list .now) (l .i) (c .before .before .before .before .before .before .before .loop-test .taken) t)
+
+add-i : tie.Need-add-i Inv-loop μ-loop
+add-i c = omega arith
+
+loop-less : tie.Need-loop-less Inv-loop μ-loop
+loop-less c = omega arith
+
+loop-again : tie.Need-loop-again Inv-loop μ-loop
+loop-again c =
+    let l = c .before .before .before .before .before .before .before .before .loop in
+    let a = c .before .before .before .before .before .before .before .before .before .before .args in
+    let t = sym (c .before .is-off-face .ensures ∙ ap (offFace (a .n)) (read (c .before .before) .0)) ∙ c .if1 .left in
+    (omega arith, l .inv .1 ∙ any-next (λ x. offFace (a .n) (moveOf x)) (a .list .now) (l .i) (c .before .before .before .before .before .before .before .loop-test .taken) t)
+
+returns-3 : tie.Need-returns-3 Inv-loop μ-loop
+returns-3 c =
+    let l = c .before .loop in
+    let a = c .before .before .before .args in
+    sym (l .inv .1 ∙ any-end (λ x. offFace (a .n) (moveOf x)) (a .list .now) (l .i) (c .loop-test .left))
+
+pub list-off-spec : {M : Type 1} → statement M
+list-off-spec =
+    tie.close
+    (tie.spec
+    Inv-loop
+    μ-loop
+    loop-holds
+    mul-read-code
+    shared-slice-read-read-code
+    read-code-requires
+    enum-known-m
+    enum-told
+    returns
+    is-off-face-requires
+    returns-2
+    add-i
+    loop-less
+    loop-again
+    returns-3)
