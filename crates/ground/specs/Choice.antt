@@ -3,14 +3,14 @@ use Prim.Native.Nat.{ℕ, zero, suc, _+_, _<_, _≤_}
 use mathlib.Core.Path.{_≡_, refl, ap, sym, _∙_}
 use mathlib.Core.Bool.{Bool, true, false, true≢false}
 use mathlib.Core.Logic.{⊎-elim}
-use mathlib.Core.List.{List, [], _∷_}
+use mathlib.Core.List.{List, [], _∷_, List·Memᴰ, List·Memᴰ·not-nil, List·Memᴰ·cases-cons}
 use native.Mathlib.Numerals.{add-one}
 use native.Mathlib.Omega.{arith}
 use native.Mathlib.Nat.{eq-or-lt-of-le}
 use lib.Dec.{eqb}
 use lib.ListN.{length, getD, drop, drop-of-length-le}
 use lib.Seq.{drop-cons}
-use borrow.Author.Tests.{eq-eqb, ne-eqb}
+use borrow.Author.Tests.{eq-eqb, ne-eqb, eqb-true, eqb-false}
 
 -- the first where the test holds, else the second
 abbrev pub pick {ℓ} : {A : Type ℓ} → Bool → A → A → A
@@ -73,6 +73,27 @@ unfolding position
 position-most b [] = omega arith
 position-most b (x ∷ xs) =
     bool-cases (eqb x b) (λ t. rw t (omega arith)) (λ t. rw t (omega (arith, position-most b xs)))
+
+-- a list's head is at place 0, any other element one place further than in its tail
+pub position-cases {ℓ} : {A : Type ℓ} (b x : ℕ) (xs : List ℕ) → (x ≡ b → position b (x ∷ xs) ≡ 0 → A)
+    → (position b (x ∷ xs) ≡ suc (position b xs) → A) → A
+unfolding position
+position-cases b x xs f g = bool-cases (eqb x b) (λ t. f (eqb-true x b t) (rw t)) (λ t. g (rw t))
+
+pub position-head : (x : ℕ) (xs : List ℕ) → position x (x ∷ xs) ≡ 0
+unfolding position
+position-head x xs = rw (eq-eqb x x refl)
+
+-- what stands at an element's place is that element, so that elements at one place are one
+pub getD-position : (b : ℕ) (xs : List ℕ) → List·Memᴰ b xs → getD xs (position b xs) 0 ≡ b
+unfolding position
+getD-position b [] m = absurd (List·Memᴰ·not-nil m)
+getD-position b (x ∷ xs) m =
+    bool-cases (eqb x b) (λ t. rw t (eqb-true x b t))
+    (λ t. rw t (getD-position b xs (⊎-elim (λ e. absurd (eqb-false x b t (sym e))) (λ w. w) (List·Memᴰ·cases-cons m))))
+
+pub position-one : (a b : ℕ) (xs : List ℕ) → List·Memᴰ a xs → List·Memᴰ b xs → position a xs ≡ position b xs → a ≡ b
+position-one a b xs ma mb e = sym (getD-position a xs ma) ∙ ap (λ i. getD xs i 0) e ∙ getD-position b xs mb
 
 -- whether the test holds of a number below m
 unfoldable pub anyBelow : (ℕ → Bool) → ℕ → Bool

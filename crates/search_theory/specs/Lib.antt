@@ -1,0 +1,5 @@
+pub mod Search
+pub mod SearchLaws
+pub mod Demand
+pub mod Levels
+pub mod LevelsLaws
