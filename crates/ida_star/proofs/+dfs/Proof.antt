@@ -1,0 +1,222 @@
+-- `dfs`: the answer is that of the candidates from i on; each call has one move less.
+use Prim.Native.Nat.{_+_, _-_, _*_, _≤_}
+use mathlib.Core.Path.{_≡_, refl, sym, ap, _∙_}
+use mathlib.Core.Logic.{⊎-elim}
+use native.Mathlib.Omega.{arith}
+use lib.ListN.{length, take, length-take}
+use lib.Seq.{length-take-le}
+use borrow.Author.Needs.{needs}
+use borrow.Author.Tests.{not-true, not-false}
+use Rattle.generic_cube.specs.Numbers.{stickers}
+use Rattle.generic_cube.specs.Code.{moveOf}
+use Rattle.generic_cube.specs.CodeLaws.{small-cube, list-code, list-fair}
+use Rattle.geometric_moves.specs.MovedLaws.{length-moved}
+use Rattle.ida_star.specs.IdaStar.{task}
+use Rattle.ida_star.specs.VisitLaws.{Trying, visit-goal, visit-above, try-start, try-skip, try-end, level-one, level-two, part-room, try-next, try-found}
+use Prim.Native.Nat.{ℕ, _<_}
+use borrow.Fn.Kinds.{In}
+use borrow.Fn.PlainCycle.{Measures, is, falls, and}
+use Rattle.ida_star.proofs.dfs.Reads as dfs
+use Rattle.ida_star.proofs.dfs.Kinds as dfs-kinds
+use Rattle.ida_star.proofs.+dfs.Lts-dfs as dfs-lts
+use Rattle.ida_star.proofs.advance.Reads as advance-reads
+use Rattle.ida_star.proofs.is_barred.Reads as is-barred-reads
+use Rattle.ida_star.proofs.pushed.Reads as pushed-reads
+use Rattle.table.proofs.number.Reads as number-reads
+use Rattle.ida_star.proofs.+dfs.{statement}
+use Rattle.ida_star.proofs.+dfs.Tie.{close}
+
+abbrev μ-dfs : Measures 3 dfs-kinds.ps ℕ
+μ-dfs κs a = a .1 .1 .1 .1 .1 .1 .0
+
+abbrev dfs-at : ℕ → In 3 dfs-kinds.ps
+dfs-at t = and 3 dfs-kinds.ps (is 3 dfs-kinds.ps μ-dfs t) dfs.Pre
+
+abbrev dfs-below : ℕ → In 3 dfs-kinds.ps
+dfs-below t = and 3 dfs-kinds.ps (falls 3 dfs-kinds.ps _<_ μ-dfs t) dfs.Pre
+
+-- what each call asks and tells
+abbrev calls : ℕ → dfs-lts.Claims
+calls t = (number-reads.Asked, number-reads.Learnt, is-barred-reads.Asked, is-barred-reads.Learnt, advance-reads.Asked, advance-reads.Learnt, pushed-reads.Asked, pushed-reads.Learnt, dfs-below t, dfs.Post)
+
+abbrev dfs-Inv-loop : dfs-lts.InvT-loop
+dfs-Inv-loop n table depth moves work₀ path left s number i₀ work i = Trying (task n table depth moves) (stickers n) left path work₀ work i
+
+abbrev dfs-μ-loop : dfs-lts.MeasureT-loop
+dfs-μ-loop n table depth moves work₀ path left s number i₀ work i = length moves - i
+
+dfs-mul-s : (t : ℕ) → dfs-lts.Need-mul-s (calls t) (dfs-at t) dfs.Post dfs-Inv-loop dfs-μ-loop
+dfs-mul-s t c = search needs
+
+dfs-mul-s-2 : (t : ℕ) → dfs-lts.Need-mul-s-2 (calls t) (dfs-at t) dfs.Post dfs-Inv-loop dfs-μ-loop
+dfs-mul-s-2 t c =
+    let a = c .before .before .before in
+    omega (arith, small-cube _ (a .pre .1 .given .size))
+
+dfs-slice-reshare-prefix-number : (t : ℕ) → dfs-lts.Need-slice-reshare-prefix-number (calls t) (dfs-at t) dfs.Post dfs-Inv-loop dfs-μ-loop
+dfs-slice-reshare-prefix-number t c =
+    let a = c .before .before .before in
+    level-one _ _ _ (a .pre .1 .room)
+
+dfs-slice-aggregate-number : (t : ℕ) → dfs-lts.Need-slice-aggregate-number (calls t) (dfs-at t) dfs.Post dfs-Inv-loop dfs-μ-loop
+dfs-slice-aggregate-number t c =
+    let a = c .before .before .before .before in
+    sym (length-take-le _ (a .args .work .now) (level-one _ _ _ (a .pre .1 .room)))
+
+dfs-number-requires : (t : ℕ) → dfs-lts.Need-number-requires (calls t) (dfs-at t) dfs.Post dfs-Inv-loop dfs-μ-loop
+dfs-number-requires t c κs =
+    let a = c .before .before .before .before in
+    record {
+      short = omega (arith, small-cube _ (a .pre .1 .given .size));
+      shallow = a .pre .1 .given .shallow;
+      long = length-take-le _ (a .args .work .now) (level-one _ _ _ (a .pre .1 .room));
+      formed = a .pre .1 .given .formed;
+    }
+
+dfs-same-length : (t : ℕ) → dfs-lts.Need-same-length (calls t) (dfs-at t) dfs.Post dfs-Inv-loop dfs-μ-loop
+dfs-same-length t c = search needs
+
+dfs-returns : (t : ℕ) → dfs-lts.Need-returns (calls t) (dfs-at t) dfs.Post dfs-Inv-loop dfs-μ-loop
+dfs-returns t c =
+    let a = c .before .before .before .before .before .before in
+    visit-goal (sym (c .before .number .ensures) ∙ c .if1 .taken) (a .pre .1 .path) refl refl
+
+dfs-same-length-2 : (t : ℕ) → dfs-lts.Need-same-length-2 (calls t) (dfs-at t) dfs.Post dfs-Inv-loop dfs-μ-loop
+dfs-same-length-2 t c = search needs
+
+dfs-returns-2 : (t : ℕ) → dfs-lts.Need-returns-2 (calls t) (dfs-at t) dfs.Post dfs-Inv-loop dfs-μ-loop
+dfs-returns-2 t c =
+    let e = c .before .before .number .ensures in
+    visit-above (λ d. c .before .if1 .left (e ∙ d)) (omega (arith, e, c .if2 .taken)) refl
+
+dfs-loop-holds : (t : ℕ) → dfs-lts.Need-loop-holds (calls t) (dfs-at t) dfs.Post dfs-Inv-loop dfs-μ-loop
+dfs-loop-holds t c =
+    let e = c .before .before .number .ensures in
+    try-start (λ d. c .before .if1 .left (e ∙ d)) (omega (arith, e, c .if2 .left))
+
+dfs-mul-code : (t : ℕ) → dfs-lts.Need-mul-code (calls t) (dfs-at t) dfs.Post dfs-Inv-loop dfs-μ-loop
+dfs-mul-code t c = search needs
+
+dfs-shared-slice-read-code : (t : ℕ) → dfs-lts.Need-shared-slice-read-code (calls t) (dfs-at t) dfs.Post dfs-Inv-loop dfs-μ-loop
+dfs-shared-slice-read-code t c = search needs
+
+dfs-is-barred-requires : (t : ℕ) → dfs-lts.Need-is-barred-requires (calls t) (dfs-at t) dfs.Post dfs-Inv-loop dfs-μ-loop
+dfs-is-barred-requires t c κs =
+    let a = c .before .before .before .before .before .before .before .before .before .before in
+    record { slots = a .pre .1 .path .slots; most = omega (arith, a .pre .1 .path .most) }
+
+dfs-advance-requires : (t : ℕ) → dfs-lts.Need-advance-requires (calls t) (dfs-at t) dfs.Post dfs-Inv-loop dfs-μ-loop
+dfs-advance-requires t c κs =
+    let a = c .before .before .before .before .before .before .before .before .before .before .before .before .before in
+    let l = c .before .before .before .before .before .loop in
+    let h = c .before .before .before .before .loop-test .taken in
+    let pos : 0 < a .args .left = omega (arith, c .before .before .before .before .before .before .before .if1 .left, c .before .before .before .before .before .before .if2 .left) in
+    record {
+      some = a .pre .1 .given .some;
+      size = a .pre .1 .given .size;
+      code = list-code _ _ (a .pre .1 .given .listed) (l .i) h;
+      fair = list-fair _ _ (a .pre .1 .given .listed) (l .i) (a .pre .1 .given .some) h;
+      room = omega (arith, level-two _ _ _ pos (a .pre .1 .room), l .inv .long);
+    }
+
+dfs-sub-dfs : (t : ℕ) → dfs-lts.Need-sub-dfs (calls t) (dfs-at t) dfs.Post dfs-Inv-loop dfs-μ-loop
+dfs-sub-dfs t c = search needs
+
+dfs-part-dfs-start : (t : ℕ) → dfs-lts.Need-part-dfs-start (calls t) (dfs-at t) dfs.Post dfs-Inv-loop dfs-μ-loop
+dfs-part-dfs-start t c = search needs
+
+dfs-part-dfs-end : (t : ℕ) → dfs-lts.Need-part-dfs-end (calls t) (dfs-at t) dfs.Post dfs-Inv-loop dfs-μ-loop
+dfs-part-dfs-end t c = search needs
+
+dfs-pushed-requires : (t : ℕ) → dfs-lts.Need-pushed-requires (calls t) (dfs-at t) dfs.Post dfs-Inv-loop dfs-μ-loop
+dfs-pushed-requires t c κs =
+    let a = c .before .before .before .before .before .before .before .before .before .before .before .before .before .before .before .before .before in
+    let l = c .before .before .before .before .before .before .before .before .before .loop in
+    let pos : 0 < a .args .left = omega (arith, c .before .before .before .before .before .before .before .before .before .before .before .if1 .left, c .before .before .before .before .before .before .before .before .before .before .if2 .left) in
+    record { slots = a .pre .1 .path .slots; most = omega (arith, a .pre .1 .path .most) }
+
+dfs-sub-dfs-2 : (t : ℕ) → dfs-lts.Need-sub-dfs-2 (calls t) (dfs-at t) dfs.Post dfs-Inv-loop dfs-μ-loop
+dfs-sub-dfs-2 t c = search needs
+
+dfs-dfs-requires : (t : ℕ) → dfs-lts.Need-dfs-requires (calls t) (dfs-at t) dfs.Post dfs-Inv-loop dfs-μ-loop
+dfs-dfs-requires t c κs =
+    let a = c .before .before .before .before .before .before .before .before .before .before .before .before .before .before .before .before .before .before in
+    let l = c .before .before .before .before .before .before .before .before .before .before .loop in
+    let pos : 0 < a .args .left = omega (arith, c .before .before .before .before .before .before .before .before .before .before .before .before .if1 .left, c .before .before .before .before .before .before .before .before .before .before .before .if2 .left) in (
+      omega (arith, a .pre .0),
+      record {
+        given = a .pre .1 .given;
+        room = part-room (λ x y. length-moved _ _ _) pos (a .pre .1 .room) (l .inv) (c .before .before .before .before .before .before .before .before .before .loop-test .taken) (c .before .before .before .before .advance .ensures);
+        path = record { slots = c .pushed .ensures .slots; most = omega (arith, c .pushed .ensures .count, a .pre .1 .path .most) };
+      },
+    )
+
+dfs-same-length-3 : (t : ℕ) → dfs-lts.Need-same-length-3 (calls t) (dfs-at t) dfs.Post dfs-Inv-loop dfs-μ-loop
+dfs-same-length-3 t c = search needs
+
+dfs-returns-3 : (t : ℕ) → dfs-lts.Need-returns-3 (calls t) (dfs-at t) dfs.Post dfs-Inv-loop dfs-μ-loop
+dfs-returns-3 t c =
+    let a = c .before .before .before .before .before .before .before .before .before .before .before .before .before .before .before .before .before .before .before .before .before .before in
+    let l = c .before .before .before .before .before .before .before .before .before .before .before .before .before .before .loop in
+    let pos : 0 < a .args .left = omega (arith, c .before .before .before .before .before .before .before .before .before .before .before .before .before .before .before .before .if1 .left, c .before .before .before .before .before .before .before .before .before .before .before .before .before .before .before .if2 .left) in
+    try-found (λ x y. length-moved _ _ _) pos (a .pre .1 .room) (l .inv) (c .before .before .before .before .before .before .before .before .before .before .before .before .before .loop-test .taken) (c .before .before .before .before .before .before .before .before .advance .ensures)
+    (sym (c .before .before .before .before .before .before .before .before .before .before .before .is-barred .ensures) ∙ not-true _ (c .before .before .before .before .before .before .before .before .before .before .if3 .taken)) (c .before .before .before .before .pushed .ensures) (c .before .before .before .dfs .ensures)
+    (c .before .before .before .dfs .kept .1 .1 .1 .1 .0) refl (c .if4 .taken)
+
+dfs-add-i : (t : ℕ) → dfs-lts.Need-add-i (calls t) (dfs-at t) dfs.Post dfs-Inv-loop dfs-μ-loop
+dfs-add-i t c = search needs
+
+dfs-loop-less : (t : ℕ) → dfs-lts.Need-loop-less (calls t) (dfs-at t) dfs.Post dfs-Inv-loop dfs-μ-loop
+dfs-loop-less t c = search needs
+
+dfs-loop-again : (t : ℕ) → dfs-lts.Need-loop-again (calls t) (dfs-at t) dfs.Post dfs-Inv-loop dfs-μ-loop
+dfs-loop-again t c =
+    let a = c .before .before .before .before .before .before .before .before .before .before .before .before in
+    let l = c .before .before .before .before .loop in
+    let pos : 0 < a .args .left = omega (arith, c .before .before .before .before .before .before .if1 .left, c .before .before .before .before .before .if2 .left) in
+    ⊎-elim
+    (λ w. try-next (λ x y. length-moved _ _ _) pos (a .pre .1 .room) (l .inv) (c .before .before .before .loop-test .taken) (w .2 .ensures)
+    (sym (c .before .is-barred .ensures) ∙ not-true _ (w .0 .taken)) (w .6 .ensures) (w .7 .ensures) (w .7 .kept .1 .1 .1 .1 .0) (w .11) (w .10 .left))
+    (λ w. try-skip (l .inv) (c .before .before .before .loop-test .taken) (sym (c .before .is-barred .ensures) ∙ not-false _ (w .0 .left)) (w .1))
+    (c .if3 .came)
+
+dfs-same-length-4 : (t : ℕ) → dfs-lts.Need-same-length-4 (calls t) (dfs-at t) dfs.Post dfs-Inv-loop dfs-μ-loop
+dfs-same-length-4 t c = search needs
+
+dfs-returns-4 : (t : ℕ) → dfs-lts.Need-returns-4 (calls t) (dfs-at t) dfs.Post dfs-Inv-loop dfs-μ-loop
+dfs-returns-4 t c =
+    try-end (c .before .loop .inv) (c .loop-test .left) refl
+
+pub +dfs-spec : {M : Type 1} → statement M
++dfs-spec = close μ-dfs λ t. dfs-lts.spec (calls t)
+    (dfs-at t)
+    dfs.Post
+    dfs-Inv-loop
+    dfs-μ-loop
+    (dfs-mul-s t)
+    (dfs-mul-s-2 t)
+    (dfs-slice-reshare-prefix-number t)
+    (dfs-slice-aggregate-number t)
+    (dfs-number-requires t)
+    (dfs-same-length t)
+    (dfs-returns t)
+    (dfs-same-length-2 t)
+    (dfs-returns-2 t)
+    (dfs-loop-holds t)
+    (dfs-mul-code t)
+    (dfs-shared-slice-read-code t)
+    (dfs-is-barred-requires t)
+    (dfs-advance-requires t)
+    (dfs-sub-dfs t)
+    (dfs-part-dfs-start t)
+    (dfs-part-dfs-end t)
+    (dfs-pushed-requires t)
+    (dfs-sub-dfs-2 t)
+    (dfs-dfs-requires t)
+    (dfs-same-length-3 t)
+    (dfs-returns-3 t)
+    (dfs-add-i t)
+    (dfs-loop-less t)
+    (dfs-loop-again t)
+    (dfs-same-length-4 t)
+    (dfs-returns-4 t)

@@ -1,0 +1,5 @@
+pub mod IdaStar
+pub mod IdaStarLaws
+pub mod Visit
+pub mod VisitLaws
+pub mod RiseLaws
