@@ -3,3 +3,4 @@ pub mod IdaStarLaws
 pub mod Visit
 pub mod VisitLaws
 pub mod RiseLaws
+pub mod Promise
