@@ -1,7 +1,7 @@
 -- What is known where nothing is refused, and the result put together.
-use Prim.Native.Nat.{ℕ, zero, suc, _+_, _*_, _≤_}
-use mathlib.Core.Path.{_≡_, refl, sym, ap, _∙_}
-use mathlib.Core.Bool.{Bool, true, false, not, true≢false}
+use Prim.Native.Nat.{ℕ, zero, suc, _+_, _≤_}
+use mathlib.Core.Path.{_≡_, refl, ap, _∙_}
+use mathlib.Core.Bool.{Bool, true, false, not}
 use mathlib.Core.List.{List, _++_}
 use native.Mathlib.Omega.{arith}
 use native.Mathlib.Nat.{mul-le-mul}
@@ -9,17 +9,16 @@ use lib.Dec.{eqb, ltb}
 use lib.ListN.{length, take, drop, replicate, length-append}
 use lib.Seq.{length-take-le, drop-at}
 use borrow.Author.Tests.{eqb-true, eq-eqb, ne-eqb, ltb-false, not-false}
-use Rattle.ground.specs.Choice.{pick, bool-cases}
+use Rattle.ground.specs.Choice.{pick}
 use Rattle.generic_cube.specs.Numbers.{small, beyond, stickers}
 use Rattle.generic_cube.specs.Code.{listRefusal}
-use Rattle.generic_cube.specs.CodeLaws.{small-bounds, small-cube, InReach, in-reach}
-use Rattle.geometric_moves.specs.Turn.{listOff}
+use Rattle.generic_cube.specs.CodeLaws.{small-bounds, small-cube, in-reach}
 use Rattle.table.specs.Table.{wellFormed}
 use Rattle.search_theory.specs.Search.{Reply}
 use Rattle.ida_star.specs.declared.Outcome.{Outcome}
 use Rattle.ida_star.specs.declared.Outcome.the-variants.{Refused}
 use Rattle.ida_star.specs.IdaStar.{levels, lateRefusal, searchRefusal, Searched}
-use Rattle.ida_star.specs.Visit.{Given, Starting, Risen}
+use Rattle.ida_star.specs.Visit.{Starting, Risen}
 
 -- a level of the work area, and all of them, in bytes
 pub levels-small : (n limit : ℕ) → n ≤ 7 → limit ≤ 20 → levels n limit ≤ 6174

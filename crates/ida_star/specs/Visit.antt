@@ -1,14 +1,14 @@
 -- What the functions inside the search ask of their arguments and tell of their answers.
-use Prim.Native.Nat.{ℕ, _+_, _<_, _≤_}
+use Prim.Native.Nat.{ℕ, _+_, _≤_}
 use mathlib.Core.Path.{_≡_}
-use mathlib.Core.Bool.{Bool, true, false}
+use mathlib.Core.Bool.{true, false}
 use mathlib.Core.List.{List, [], _∷_, _++_}
 use lib.ListN.{length, take, drop}
 use Rattle.generic_cube.specs.Numbers.{stickers}
 use Rattle.generic_cube.specs.Code.{moveOf, badCode, listRefusal}
 use Rattle.generic_cube.specs.CodeLaws.{Fair}
 use Rattle.table.specs.Table.{wellFormed}
-use Rattle.search_theory.specs.Search.{Reply, none, found, Last, start, after, Task, dfs}
+use Rattle.search_theory.specs.Search.{Reply, none, found, Task, dfs}
 use Rattle.ida_star.specs.declared.Outcome.{Outcome}
 use Rattle.ida_star.specs.declared.Path.{Path}
 use Rattle.ida_star.specs.declared.Answer.{Answer}
@@ -17,12 +17,6 @@ use Rattle.ida_star.specs.IdaStar.{levels, outcomeOf, outputOf}
 -- the list that a path holds
 abbrev pub held : Path → List ℕ
 held p = take (p .len) (p .moves)
-
--- the last of a list, if there is one
-unfoldable pub lastOf : List ℕ → Last
-lastOf [] = start
-lastOf (a ∷ []) = after a
-lastOf (a ∷ b ∷ q) = lastOf (b ∷ q)
 
 -- a path of 20 slots, so many of them free
 pub record Roomy (p : Path) (free : ℕ) : Type 0 where
@@ -43,7 +37,7 @@ pub record Given (n : ℕ) (table : List ℕ) (depth : ℕ) (moves : List ℕ) :
   pub formed : wellFormed (stickers n) table ≡ true
   pub listed : listRefusal n moves ≡ 0
 
--- levels of s bytes: the first stays, the second becomes what f makes of it, and the rest stay
+-- levels of s bytes: the first stays, the second becomes what f makes of the first, and the rest stay
 abbrev pub next : ℕ → (List ℕ → List ℕ) → List ℕ → List ℕ
 next s f work = take s work ++ (f (take s work) ++ drop (s + s) work)
 
@@ -61,21 +55,19 @@ pub record Ready (n : ℕ) (table : List ℕ) (depth : ℕ) (moves : List ℕ) (
   pub room : levels n left ≤ work
   pub path : Roomy p left
 
--- a list was found, behind the moves made before
-pub record Hit (before : List ℕ) (reply : Reply) (a : Answer) : Type 0 where
-  pub list : List ℕ
-  pub is : reply ≡ found list
-  pub holds : held (a .path) ≡ before ++ list
+-- a list was found
+pub record Hit (reply : Reply) (a : Answer) : Type 0 where
+  pub is : reply ≡ found (held (a .path))
   pub path : Roomy (a .path) 0
 
--- an answer, of a search that goes on from the moves made before
-pub record Told (before : List ℕ) (reply : Reply) (a : Answer) : Type 0 where
+-- what an answer tells
+pub record Told (reply : Reply) (a : Answer) : Type 0 where
   pub missed : a .found ≡ false → reply ≡ none
-  pub hit : a .found ≡ true → Hit before reply a
+  pub hit : a .found ≡ true → Hit reply a
 
 -- what a visit tells, and that it leaves its own level's cube
 pub record Visited (t : Task) (s left : ℕ) (p : Path) (work work′ : List ℕ) (a : Answer) : Type 0 where
-  pub told : Told (held p) (dfs t left (lastOf (held p)) (take s work)) a
+  pub told : Told (dfs t left (held p) (take s work)) a
   pub kept : take s work′ ≡ take s work
 
 -- a pass: the cube, and a level for each move left and one more

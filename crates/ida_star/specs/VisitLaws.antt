@@ -1,33 +1,29 @@
 -- One visit, as its code takes it: the path, the work area, and candidate by candidate.
-use Prim.Native.Nat.{ℕ, zero, suc, _+_, _-_, _*_, _≤_, _<_}
-use mathlib.Core.Path.{_≡_, refl, sym, ap, subst, _∙_}
+use Prim.Native.Nat.{ℕ, suc, _+_, _-_, _*_, _≤_, _<_}
+use mathlib.Core.Path.{_≡_, refl, sym, ap, ap₂, subst, _∙_}
 use mathlib.Core.Bool.{Bool, true, false, true≢false}
-use mathlib.Core.List.{List, [], _∷_, _++_, append-assoc, append-nil}
+use mathlib.Core.List.{List, _++_}
 use native.Mathlib.Omega.{arith}
 use native.Mathlib.Nat.{suc-mul}
 use native.Mathlib.Numerals.{add-one}
-use lib.ListN.{length, take, drop, getD, set, length-append, length-take, length-drop}
+use lib.ListN.{length, take, drop, getD, length-append, length-drop}
 use lib.Seq.{take-suc, take-at, drop-at, drop-drop, take-all, length-take-le}
-use Rattle.search_theory.specs.Search.{Reply, none, found, first, Last, start, after, Task, bars, dfs}
-use Rattle.search_theory.specs.SearchLaws.{tried, tried-barred, tried-miss, tried-hit, first-next, first-here, first-end, at-goal, above, opened}
+use Rattle.search_theory.specs.Search.{Reply, none, found, first, Task, bars, dfs}
+use Rattle.search_theory.specs.SearchLaws.{bars-snoc, tried, tried-barred, tried-free, first-next, first-here, first-end, at-goal, above, opened}
 use Rattle.ida_star.specs.declared.Path.{Path}
 use Rattle.ida_star.specs.declared.Answer.{Answer}
-use Rattle.ida_star.specs.Visit.{held, lastOf, Roomy, Longer, next, Hit, Told, Visited}
+use Rattle.ida_star.specs.Visit.{held, Roomy, Longer, next, Hit, Told, Visited}
 
-last-snoc : (q : List ℕ) (c : ℕ) → lastOf (q ++ (c ∷ [])) ≡ after c
-unfolding lastOf
-last-snoc [] c = refl
-last-snoc (a ∷ []) c = refl
-last-snoc (a ∷ b ∷ q) c = last-snoc (b ∷ q) c
+-- what the last slot of a path bars
+pub barred-none : (barred : ℕ → ℕ → Bool) (l : List ℕ) (n c : ℕ) → n ≡ 0 → bars barred (take n l) c ≡ false
+unfolding bars
+barred-none barred l n c e = rw e
 
-pub last-none : (l : List ℕ) (n : ℕ) → n ≡ 0 → lastOf (take n l) ≡ start
-unfolding lastOf
-last-none l n e = rw e
-
-pub last-some : (l : List ℕ) (n : ℕ) → 0 < n → n ≤ length l → lastOf (take n l) ≡ after (getD l (n - 1) 0)
-last-some l n h k =
+pub barred-last : (barred : ℕ → ℕ → Bool) (l : List ℕ) (n c : ℕ) → 0 < n → n ≤ length l → bars barred (take n l) c ≡ barred (getD l (n - 1) 0) c
+barred-last barred l n c h k =
     let e : n ≡ suc (n - 1) = omega arith in
-    ap (λ i. lastOf (take i l)) e ∙ ap lastOf (take-suc l (n - 1) 0 (omega arith)) ∙ last-snoc (take (n - 1) l) (getD l (n - 1) 0)
+    ap (λ i. bars barred (take i l) c) e ∙ ap (λ q. bars barred q c) (take-suc l (n - 1) 0 (omega arith))
+    ∙ bars-snoc barred (take (n - 1) l) (getD l (n - 1) 0) c
 
 -- the second level, put in its place
 pub put-next : {s k : ℕ} (f : List ℕ → List ℕ) (work : List ℕ) {new : List ℕ} → k ≡ s → new ≡ f (take k work)
@@ -39,10 +35,10 @@ put-next {s} {k} f work {new} e d =
     ∙ ap (λ j. next j f work) e
 
 -- answers that say none, and that say a list
-tell-none : {before : List ℕ} {r : Reply} {a : Answer} → r ≡ none → a .found ≡ false → Told before r a
+tell-none : {r : Reply} {a : Answer} → r ≡ none → a .found ≡ false → Told r a
 tell-none e h = record { missed = λ d. e; hit = λ d. absurd (true≢false (sym d ∙ h)) }
 
-tell-hit : {before : List ℕ} {r : Reply} {a : Answer} → Hit before r a → a .found ≡ true → Told before r a
+tell-hit : {r : Reply} {a : Answer} → Hit r a → a .found ≡ true → Told r a
 tell-hit e h = record { missed = λ d. absurd (true≢false (sym h ∙ d)); hit = λ d. e }
 
 -- the candidates from i on are still to be tried, and the work area has its own level's cube
@@ -50,16 +46,14 @@ pub record Trying (t : Task) (s left : ℕ) (p : Path) (work₀ work : List ℕ)
   pub most : i ≤ length (t .candidates)
   pub long : length work ≡ length work₀
   pub front : take s work ≡ take s work₀
-  pub rest : dfs t left (lastOf (held p)) (take s work₀) ≡ first (tried t (left - 1) (lastOf (held p)) (take s work₀)) (drop i (t .candidates))
+  pub rest : dfs t left (held p) (take s work₀) ≡ first (tried t (left - 1) (held p) (take s work₀)) (drop i (t .candidates))
 
 module _ {t : Task} {s left : ℕ} {p : Path} {work₀ : List ℕ} where
   pub visit-goal : {a : Answer} → t .number (take s work₀) ≡ 0 → Roomy p left → a .path ≡ p → a .found ≡ true → Visited t s left p work₀ work₀ a
   visit-goal e r q h =
       record {
         told = tell-hit (record {
-          list = [];
-          is = at-goal t left _ _ e;
-          holds = ap held q ∙ sym (append-nil (held p));
+          is = at-goal t left _ _ e ∙ ap (λ x. found (held x)) (sym q);
           path = subst (λ x. Roomy x 0) (sym q) (record { slots = r .slots; most = omega (arith, r .most) });
         }) h;
         kept = refl;
@@ -72,7 +66,7 @@ module _ {t : Task} {s left : ℕ} {p : Path} {work₀ : List ℕ} where
   try-start e h = record { most = omega arith; long = refl; front = refl; rest = opened t left _ _ e h }
 
   pub try-skip : {work work₂ : List ℕ} {i : ℕ} → Trying t s left p work₀ work i → i < length (t .candidates)
-      → bars (t .barred) (lastOf (held p)) (getD (t .candidates) i 0) ≡ true → work₂ ≡ work → Trying t s left p work₀ work₂ (i + 1)
+      → bars (t .barred) (held p) (getD (t .candidates) i 0) ≡ true → work₂ ≡ work → Trying t s left p work₀ work₂ (i + 1)
   try-skip {i = i} g h b e =
       record {
         most = omega arith;
@@ -127,15 +121,13 @@ module _ {t : Task} {s left : ℕ} {p : Path} {work₀ work work₁ : List ℕ} 
       ∙ take-at _ _ s (sized (getD (t .candidates) i 0) (take s work)) ∙ ap (t .moved (getD (t .candidates) i 0)) (g .front)
 
   -- and has come back as part′, with the answer a
-  module _ {q : Path} {part′ work₂ : List ℕ} {a : Answer} (free : bars (t .barred) (lastOf (held p)) (getD (t .candidates) i 0) ≡ false)
+  module _ {q : Path} {part′ work₂ : List ℕ} {a : Answer} (free : bars (t .barred) (held p) (getD (t .candidates) i 0) ≡ false)
       (longer : Longer p (getD (t .candidates) i 0) q) (v : Visited t s (left - 1) q (take (length work₁ - s) (drop s work₁)) part′ a)
       (same : length part′ ≡ length (take (length work₁ - s) (drop s work₁)))
       (back : work₂ ≡ take s work₁ ++ (part′ ++ drop (length work₁ - s) (drop s work₁))) where
-    below : dfs t (left - 1) (lastOf (held q)) (take s (take (length work₁ - s) (drop s work₁)))
-        ≡ dfs t (left - 1) (after (getD (t .candidates) i 0)) (t .moved (getD (t .candidates) i 0) (take s work₀))
-    below =
-        ap (λ l. dfs t (left - 1) l (take s (take (length work₁ - s) (drop s work₁)))) (ap lastOf (longer .holds) ∙ last-snoc (held p) _)
-        ∙ ap (dfs t (left - 1) (after (getD (t .candidates) i 0))) part-cube
+    below : dfs t (left - 1) (held q) (take s (take (length work₁ - s) (drop s work₁)))
+        ≡ tried t (left - 1) (held p) (take s work₀) (getD (t .candidates) i 0)
+    below = ap₂ (dfs t (left - 1)) (longer .holds) part-cube ∙ sym (tried-free t (left - 1) (held p) (take s work₀) _ free)
 
     back-front : take s work₂ ≡ take s work₀
     back-front =
@@ -153,7 +145,7 @@ module _ {t : Task} {s left : ℕ} {p : Path} {work₀ work work₁ : List ℕ} 
           most = omega arith;
           long = back-long;
           front = back-front;
-          rest = g .rest ∙ first-next _ (t .candidates) i here (tried-miss t (left - 1) _ _ _ free (sym below ∙ v .told .missed d));
+          rest = g .rest ∙ first-next _ (t .candidates) i here (sym below ∙ v .told .missed d);
         }
 
     pub try-found : a .found ≡ true → Visited t s left p work₀ work₂ a
@@ -161,9 +153,7 @@ module _ {t : Task} {s left : ℕ} {p : Path} {work₀ work work₁ : List ℕ} 
         let h = v .told .hit d in
         record {
           told = tell-hit (record {
-            list = getD (t .candidates) i 0 ∷ h .list;
-            is = g .rest ∙ first-here _ (t .candidates) i here (tried-hit t (left - 1) _ _ _ free (sym below ∙ h .is));
-            holds = h .holds ∙ ap (λ l. l ++ h .list) (longer .holds) ∙ append-assoc (held p) _ (h .list);
+            is = g .rest ∙ first-here _ (t .candidates) i here (sym below ∙ h .is);
             path = h .path;
           }) d;
           kept = back-front;

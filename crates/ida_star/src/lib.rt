@@ -6,9 +6,9 @@ ghost use lib.ListN.{length, drop};
 ghost use Rattle.generic_cube.specs.Numbers.{stickers};
 ghost use Rattle.generic_cube.specs.Code.{moveOf, barred};
 ghost use Rattle.geometric_moves.specs.Turn.{moved};
-ghost use Rattle.search_theory.specs.Search.{start, bars, dfs};
+ghost use Rattle.search_theory.specs.Search.{bars, dfs};
 ghost use Rattle.ida_star.specs.IdaStar.{task, reply, lateRefusal, searchRefusal, IdaStarResult};
-ghost use Rattle.ida_star.specs.Visit.{held, lastOf, Roomy, Longer, next, Turning, Ready, Told, Visited, Starting, Risen, Late};
+ghost use Rattle.ida_star.specs.Visit.{held, Roomy, Longer, next, Turning, Ready, Told, Visited, Starting, Risen, Late};
 use generic_cube::Code;
 
 // What a search answers: a list of so many moves, none, or the number of its refusal.
@@ -24,7 +24,7 @@ pub struct Path {
     pub len: usize,
 }
 
-// Whether a visit found a list, and that list behind the moves made before.
+// Whether a visit found a list, and that list, with the moves made before.
 pub struct Answer {
     pub found: bool,
     pub path: Path,
@@ -33,7 +33,7 @@ pub struct Answer {
 // Whether a move may not follow the last of a path: it has the same kind.
 fn is_barred(path: Path, code: u16) -> bool
     requires { ⌜ Roomy path 0 ⌝ }
-    ensures { λ r. ⌜ r ≡ bars barred (lastOf (held path)) code ⌝ }
+    ensures { λ r. ⌜ r ≡ bars barred (held path) code ⌝ }
 {
     let len = path.len;
     if len == 0 {
@@ -134,7 +134,7 @@ fn pass(
     work: &mut [u8],
 ) -> Answer
     requires { ⌜ Starting n (now cube) (now table) depth (now moves) left (length (now work)) ⌝ }
-    ensures { λ a. ⌜ Told [] (dfs (task n (now (table .entry)) depth (now (moves .entry))) left start (now (cube .entry))) a ⌝ }
+    ensures { λ a. ⌜ Told (dfs (task n (now (table .entry)) depth (now (moves .entry))) left [] (now (cube .entry))) a ⌝ }
 {
     let s = 6 * n * n;
     ground::bytes::copy(cube, &mut work[..s]);

@@ -1,14 +1,13 @@
 -- `dfs`: the answer is that of the candidates from i on; each call has one move less.
-use Prim.Native.Nat.{_+_, _-_, _*_, _≤_}
-use mathlib.Core.Path.{_≡_, refl, sym, ap, _∙_}
+use Prim.Native.Nat.{_-_}
+use mathlib.Core.Path.{refl, sym, _∙_}
 use mathlib.Core.Logic.{⊎-elim}
 use native.Mathlib.Omega.{arith}
-use lib.ListN.{length, take, length-take}
+use lib.ListN.{length}
 use lib.Seq.{length-take-le}
 use borrow.Author.Needs.{needs}
 use borrow.Author.Tests.{not-true, not-false}
 use Rattle.generic_cube.specs.Numbers.{stickers}
-use Rattle.generic_cube.specs.Code.{moveOf}
 use Rattle.generic_cube.specs.CodeLaws.{small-cube, list-code, list-fair}
 use Rattle.geometric_moves.specs.MovedLaws.{length-moved}
 use Rattle.ida_star.specs.IdaStar.{task}

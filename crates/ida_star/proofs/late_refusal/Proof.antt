@@ -1,7 +1,7 @@
 -- `late_refusal`: each return is a case of `lateRefusal`.
 use Prim.Native.Nat.{_≤_}
 use mathlib.Core.Path.{_≡_, sym, ap, _∙_}
-use mathlib.Core.Bool.{true, false, not}
+use mathlib.Core.Bool.{false, not}
 use borrow.Author.Tests.{lt-ltb, le-ltb}
 use Rattle.generic_cube.specs.Numbers.{stickers}
 use Rattle.generic_cube.specs.CodeLaws.{small-cube}

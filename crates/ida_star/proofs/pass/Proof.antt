@@ -1,5 +1,5 @@
 -- `pass`: the cube is the first level's, and no move is made.
-use mathlib.Core.Path.{_≡_, refl, sym, ap, _∙_}
+use mathlib.Core.Path.{refl, sym, ap, _∙_}
 use lib.Seq.{length-take-le, take-at}
 use lib.ListN.{length, drop}
 use Rattle.generic_cube.specs.Numbers.{stickers}

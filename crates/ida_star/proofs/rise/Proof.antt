@@ -1,7 +1,7 @@
 -- `rise`: no pass so far has found a list.
 use Prim.Native.Nat.{_+_, _-_}
 use lib.ListN.{length}
-use mathlib.Core.Path.{_≡_, refl, sym, ap, _∙_}
+use mathlib.Core.Path.{ap, _∙_}
 use Rattle.ida_star.specs.IdaStar.{task}
 use Rattle.ida_star.specs.RiseLaws.{Rising, rise-start, rise-next, rise-end, rise-room, rise-hit, pass-starts}
 use native.Mathlib.Omega.{arith}

@@ -1,8 +1,8 @@
 -- `turn_level`: the second level becomes the first, turned; the code is one that is taken.
 use Prim.Native.Nat.{_+_, _-_}
-use mathlib.Core.Path.{_≡_, refl, sym, ap, ap₂, subst, _∙_}
+use mathlib.Core.Path.{_≡_, sym, ap, ap₂, subst, _∙_}
 use mathlib.Core.Bool.{true≢false}
-use lib.ListN.{length, take, drop, length-drop}
+use lib.ListN.{length, drop, length-drop}
 use lib.Seq.{length-take-le}
 use Rattle.generic_cube.specs.Code.{moveOf}
 use Rattle.generic_cube.specs.CodeLaws.{Fair, taken, refused}
