@@ -62,7 +62,8 @@ taken n cube table depth moves limit work out e =
     }
 
 -- a refusal's number, given, and nothing changed
-pub searched-refused : {number k need : ℕ} {reply : Reply} {work out : List ℕ} → k ≡ number → (k ≡ 0 → ⊥) → Searched number reply need work work out out (Refused k)
+pub searched-refused : {number k need : ℕ} {reply : Reply} {work out : List ℕ} → k ≡ number → (k ≡ 0 → ⊥)
+    → Searched number reply need work work out out (Refused k)
 searched-refused {number} {k} e h =
     let z : eqb number 0 ≡ false = ne-eqb number 0 (λ d. h (e ∙ d)) in
     record { answered = rw z (ap Refused e); zeroed = rw z; written = rw z }

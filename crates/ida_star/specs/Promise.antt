@@ -47,7 +47,8 @@ told-is (found p) out = ap found (take-at p (drop (length p) out) (length p) ref
 
 module _ (n : ℕ) (cube table : List ℕ) (depth : ℕ) (moves : List ℕ) (limit : ℕ) where
   -- the search that is not refused, with an admissible table
-  pub best : length cube ≡ stickers n → AdmissibleTable n table depth moves → Best (task n table depth moves) limit cube (reply n cube table depth moves limit)
+  pub best : length cube ≡ stickers n → AdmissibleTable n table depth moves
+      → Best (task n table depth moves) limit cube (reply n cube table depth moves limit)
   best whole low =
       Demand.best (task n table depth moves) (Cube n) (λ c m s h. length-moved n (moveOf c) s) low limit cube whole
 

@@ -59,7 +59,8 @@ module _ {t : Task} {s left : ℕ} {p : Path} {work₀ : List ℕ} where
         kept = refl;
       }
 
-  pub visit-above : {a : Answer} → (t .number (take s work₀) ≡ 0 → ⊥) → left < t .number (take s work₀) → a .found ≡ false → Visited t s left p work₀ work₀ a
+  pub visit-above : {a : Answer} → (t .number (take s work₀) ≡ 0 → ⊥) → left < t .number (take s work₀) → a .found ≡ false
+      → Visited t s left p work₀ work₀ a
   visit-above e h d = record { told = tell-none (above t left _ _ e h) d; kept = refl }
 
   pub try-start : (t .number (take s work₀) ≡ 0 → ⊥) → t .number (take s work₀) ≤ left → Trying t s left p work₀ work₀ 0

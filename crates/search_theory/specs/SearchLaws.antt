@@ -67,7 +67,8 @@ module _ (t : Task) where
   pub tried-barred : (k : ℕ) (path s : List ℕ) (c : ℕ) → bars (t .barred) path c ≡ true → tried k path s c ≡ none
   tried-barred k path s c e = rw e
 
-  pub tried-free : (k : ℕ) (path s : List ℕ) (c : ℕ) → bars (t .barred) path c ≡ false → tried k path s c ≡ dfs t k (path ++ (c ∷ [])) (t .moved c s)
+  pub tried-free : (k : ℕ) (path s : List ℕ) (c : ℕ) → bars (t .barred) path c ≡ false
+      → tried k path s c ≡ dfs t k (path ++ (c ∷ [])) (t .moved c s)
   tried-free k path s c e = rw e
 
   -- a visit: at a goal, above the bound, or the candidates
@@ -81,7 +82,8 @@ module _ (t : Task) where
   above zero path s e h = rw (ne-eqb _ _ e)
   above (suc k) path s e h = rw (ne-eqb _ _ e, lt-ltb _ _ h)
 
-  pub opened : (k : ℕ) (path s : List ℕ) → (t .number s ≡ 0 → ⊥) → t .number s ≤ k → dfs t k path s ≡ first (tried (k - 1) path s) (t .candidates)
+  pub opened : (k : ℕ) (path s : List ℕ) → (t .number s ≡ 0 → ⊥) → t .number s ≤ k
+      → dfs t k path s ≡ first (tried (k - 1) path s) (t .candidates)
   unfolding dfs
   opened zero path s e h = absurd (e (omega arith))
   opened (suc k) path s e h =

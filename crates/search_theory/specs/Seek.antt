@@ -90,7 +90,8 @@ module _ (t : Task) where
       (λ b h. picked (ltb (suc k) (t .number s)) h (λ d i. never i) (λ d i. g (way (first-found (sought k l s) (t .candidates) i))))
 
   -- none at a state within its bound: no candidate leads to a list
-  pub missed : (k : ℕ) (l s : List ℕ) → seek (suc k) l s ≡ none → t .number s ≤ suc k → {c : ℕ} → List·Memᴰ c (t .candidates) → sought k l s c ≡ none
+  pub missed : (k : ℕ) (l s : List ℕ) → seek (suc k) l s ≡ none → t .number s ≤ suc k → {c : ℕ} → List·Memᴰ c (t .candidates)
+      → sought k l s c ≡ none
   unfolding seek
   missed k l s e b m =
       picked (eqb (t .number s) 0) e (λ z h. never (sym h))
@@ -227,7 +228,8 @@ module _ (t : Task) where
       step c true e = refl
       step c false e = e ∙ ap (behind (path ++ (c ∷ []))) (seek-last k path c (t .moved c s)) ∙ sym (behind-led path c (seek t k (c ∷ []) (t .moved c s)))
 
-      go : {x : Reply} (y : Reply) (b d : Bool) → x ≡ behind path y → pick b (found path) (pick d none x) ≡ behind path (pick b (found []) (pick d none y))
+      go : {x : Reply} (y : Reply) (b d : Bool) → x ≡ behind path y
+          → pick b (found path) (pick d none x) ≡ behind path (pick b (found []) (pick d none y))
       go y true d e = ap found (sym (append-nil path))
       go y false true e = refl
       go y false false e = e

@@ -11,7 +11,8 @@ use Rattle.generic_cube.specs.Numbers.{stickers}
 use Rattle.generic_cube.specs.CodeLaws.{small-cube, list-code, list-fair}
 use Rattle.geometric_moves.specs.MovedLaws.{length-moved}
 use Rattle.ida_star.specs.IdaStar.{task}
-use Rattle.ida_star.specs.VisitLaws.{Trying, visit-goal, visit-above, try-start, try-skip, try-end, level-one, level-two, part-room, try-next, try-found}
+use Rattle.ida_star.specs.VisitLaws.{Trying, visit-goal, visit-above, try-start, try-skip, try-end, level-one, level-two}
+use Rattle.ida_star.specs.VisitLaws.{part-room, try-next, try-found}
 use Prim.Native.Nat.{ℕ, _<_}
 use borrow.Fn.Kinds.{In}
 use borrow.Fn.PlainCycle.{Measures, is, falls, and}
@@ -36,13 +37,32 @@ dfs-below t = and 3 dfs-kinds.ps (falls 3 dfs-kinds.ps _<_ μ-dfs t) dfs.Pre
 
 -- what each call asks and tells
 abbrev calls : ℕ → dfs-lts.Claims
-calls t = (number-reads.Asked, number-reads.Learnt, is-barred-reads.Asked, is-barred-reads.Learnt, advance-reads.Asked, advance-reads.Learnt, pushed-reads.Asked, pushed-reads.Learnt, dfs-below t, dfs.Post)
+calls t = (
+  number-reads.Asked,
+  number-reads.Learnt,
+  is-barred-reads.Asked,
+  is-barred-reads.Learnt,
+  advance-reads.Asked,
+  advance-reads.Learnt,
+  pushed-reads.Asked,
+  pushed-reads.Learnt,
+  dfs-below t,
+  dfs.Post,
+)
 
 abbrev dfs-Inv-loop : dfs-lts.InvT-loop
 dfs-Inv-loop n table depth moves work₀ path left s number i₀ work i = Trying (task n table depth moves) (stickers n) left path work₀ work i
 
 abbrev dfs-μ-loop : dfs-lts.MeasureT-loop
 dfs-μ-loop n table depth moves work₀ path left s number i₀ work i = length moves - i
+
+-- the entry, from a turn of the loop; and that a move is left there
+abbrev entry : (t : ℕ) → dfs-lts.In-loop (calls t) (dfs-at t) dfs.Post dfs-Inv-loop dfs-μ-loop
+    → dfs-lts.Start (calls t) (dfs-at t) dfs.Post dfs-Inv-loop dfs-μ-loop
+entry t k = k .before .before .before .before .before .before .before .before .before
+
+some-left : (t : ℕ) (k : dfs-lts.In-loop (calls t) (dfs-at t) dfs.Post dfs-Inv-loop dfs-μ-loop) → 0 < entry t k .args .left
+some-left t k = omega (arith, k .before .before .before .if1 .left, k .before .before .if2 .left)
 
 dfs-mul-s : (t : ℕ) → dfs-lts.Need-mul-s (calls t) (dfs-at t) dfs.Post dfs-Inv-loop dfs-μ-loop
 dfs-mul-s t c = search needs
@@ -101,21 +121,20 @@ dfs-shared-slice-read-code t c = search needs
 
 dfs-is-barred-requires : (t : ℕ) → dfs-lts.Need-is-barred-requires (calls t) (dfs-at t) dfs.Post dfs-Inv-loop dfs-μ-loop
 dfs-is-barred-requires t c κs =
-    let a = c .before .before .before .before .before .before .before .before .before .before in
-    record { slots = a .pre .1 .path .slots; most = omega (arith, a .pre .1 .path .most) }
+    let r = entry t (c .before) .pre .1 .path in
+    record { slots = r .slots; most = omega (arith, r .most) }
 
 dfs-advance-requires : (t : ℕ) → dfs-lts.Need-advance-requires (calls t) (dfs-at t) dfs.Post dfs-Inv-loop dfs-μ-loop
 dfs-advance-requires t c κs =
-    let a = c .before .before .before .before .before .before .before .before .before .before .before .before .before in
-    let l = c .before .before .before .before .before .loop in
-    let h = c .before .before .before .before .loop-test .taken in
-    let pos : 0 < a .args .left = omega (arith, c .before .before .before .before .before .before .before .if1 .left, c .before .before .before .before .before .before .if2 .left) in
+    let k = c .before .before .before .before in
+    let r = entry t k .pre .1 in
+    let l = k .before .loop in
     record {
-      some = a .pre .1 .given .some;
-      size = a .pre .1 .given .size;
-      code = list-code _ _ (a .pre .1 .given .listed) (l .i) h;
-      fair = list-fair _ _ (a .pre .1 .given .listed) (l .i) (a .pre .1 .given .some) h;
-      room = omega (arith, level-two _ _ _ pos (a .pre .1 .room), l .inv .long);
+      some = r .given .some;
+      size = r .given .size;
+      code = list-code _ _ (r .given .listed) (l .i) (k .loop-test .taken);
+      fair = list-fair _ _ (r .given .listed) (l .i) (r .given .some) (k .loop-test .taken);
+      room = omega (arith, level-two _ _ _ (some-left t k) (r .room), l .inv .long);
     }
 
 dfs-sub-dfs : (t : ℕ) → dfs-lts.Need-sub-dfs (calls t) (dfs-at t) dfs.Post dfs-Inv-loop dfs-μ-loop
@@ -129,24 +148,24 @@ dfs-part-dfs-end t c = search needs
 
 dfs-pushed-requires : (t : ℕ) → dfs-lts.Need-pushed-requires (calls t) (dfs-at t) dfs.Post dfs-Inv-loop dfs-μ-loop
 dfs-pushed-requires t c κs =
-    let a = c .before .before .before .before .before .before .before .before .before .before .before .before .before .before .before .before .before in
-    let l = c .before .before .before .before .before .before .before .before .before .loop in
-    let pos : 0 < a .args .left = omega (arith, c .before .before .before .before .before .before .before .before .before .before .before .if1 .left, c .before .before .before .before .before .before .before .before .before .before .if2 .left) in
-    record { slots = a .pre .1 .path .slots; most = omega (arith, a .pre .1 .path .most) }
+    let k = c .before .before .before .before .before .before .before .before in
+    let r = entry t k .pre .1 .path in
+    record { slots = r .slots; most = omega (arith, r .most, some-left t k) }
 
 dfs-sub-dfs-2 : (t : ℕ) → dfs-lts.Need-sub-dfs-2 (calls t) (dfs-at t) dfs.Post dfs-Inv-loop dfs-μ-loop
 dfs-sub-dfs-2 t c = search needs
 
 dfs-dfs-requires : (t : ℕ) → dfs-lts.Need-dfs-requires (calls t) (dfs-at t) dfs.Post dfs-Inv-loop dfs-μ-loop
 dfs-dfs-requires t c κs =
-    let a = c .before .before .before .before .before .before .before .before .before .before .before .before .before .before .before .before .before .before in
-    let l = c .before .before .before .before .before .before .before .before .before .before .loop in
-    let pos : 0 < a .args .left = omega (arith, c .before .before .before .before .before .before .before .before .before .before .before .before .if1 .left, c .before .before .before .before .before .before .before .before .before .before .before .if2 .left) in (
-      omega (arith, a .pre .0),
+    let v = c .before .before .before .before in
+    let k = v .before .before .before .before .before in
+    let a = entry t k in
+    let r = a .pre .1 in (
+      omega (arith, a .pre .0, some-left t k),
       record {
-        given = a .pre .1 .given;
-        room = part-room (λ x y. length-moved _ _ _) pos (a .pre .1 .room) (l .inv) (c .before .before .before .before .before .before .before .before .before .loop-test .taken) (c .before .before .before .before .advance .ensures);
-        path = record { slots = c .pushed .ensures .slots; most = omega (arith, c .pushed .ensures .count, a .pre .1 .path .most) };
+        given = r .given;
+        room = part-room (λ x y. length-moved _ _ _) (some-left t k) (r .room) (k .before .loop .inv) (k .loop-test .taken) (v .advance .ensures);
+        path = record { slots = c .pushed .ensures .slots; most = omega (arith, c .pushed .ensures .count, r .path .most, some-left t k) };
       },
     )
 
@@ -155,12 +174,13 @@ dfs-same-length-3 t c = search needs
 
 dfs-returns-3 : (t : ℕ) → dfs-lts.Need-returns-3 (calls t) (dfs-at t) dfs.Post dfs-Inv-loop dfs-μ-loop
 dfs-returns-3 t c =
-    let a = c .before .before .before .before .before .before .before .before .before .before .before .before .before .before .before .before .before .before .before .before .before .before in
-    let l = c .before .before .before .before .before .before .before .before .before .before .before .before .before .before .loop in
-    let pos : 0 < a .args .left = omega (arith, c .before .before .before .before .before .before .before .before .before .before .before .before .before .before .before .before .if1 .left, c .before .before .before .before .before .before .before .before .before .before .before .before .before .before .before .if2 .left) in
-    try-found (λ x y. length-moved _ _ _) pos (a .pre .1 .room) (l .inv) (c .before .before .before .before .before .before .before .before .before .before .before .before .before .loop-test .taken) (c .before .before .before .before .before .before .before .before .advance .ensures)
-    (sym (c .before .before .before .before .before .before .before .before .before .before .before .is-barred .ensures) ∙ not-true _ (c .before .before .before .before .before .before .before .before .before .before .if3 .taken)) (c .before .before .before .before .pushed .ensures) (c .before .before .before .dfs .ensures)
-    (c .before .before .before .dfs .kept .1 .1 .1 .1 .0) refl (c .if4 .taken)
+    let d = c .before .before .before in
+    let v = d .before .before .before .before .before in
+    let b = v .before .before in
+    let k = b .before .before .before in
+    try-found (λ x y. length-moved _ _ _) (some-left t k) (entry t k .pre .1 .room) (k .before .loop .inv) (k .loop-test .taken) (v .advance .ensures)
+    (sym (b .before .is-barred .ensures) ∙ not-true _ (b .if3 .taken)) (d .before .pushed .ensures) (d .dfs .ensures) (d .dfs .kept .1 .1 .1 .1 .0)
+    refl (c .if4 .taken)
 
 dfs-add-i : (t : ℕ) → dfs-lts.Need-add-i (calls t) (dfs-at t) dfs.Post dfs-Inv-loop dfs-μ-loop
 dfs-add-i t c = search needs
@@ -170,13 +190,13 @@ dfs-loop-less t c = search needs
 
 dfs-loop-again : (t : ℕ) → dfs-lts.Need-loop-again (calls t) (dfs-at t) dfs.Post dfs-Inv-loop dfs-μ-loop
 dfs-loop-again t c =
-    let a = c .before .before .before .before .before .before .before .before .before .before .before .before in
-    let l = c .before .before .before .before .loop in
-    let pos : 0 < a .args .left = omega (arith, c .before .before .before .before .before .before .if1 .left, c .before .before .before .before .before .if2 .left) in
+    let k = c .before .before .before in
+    let l = k .before .loop in
+    let b = c .before .is-barred .ensures in
     ⊎-elim
-    (λ w. try-next (λ x y. length-moved _ _ _) pos (a .pre .1 .room) (l .inv) (c .before .before .before .loop-test .taken) (w .2 .ensures)
-    (sym (c .before .is-barred .ensures) ∙ not-true _ (w .0 .taken)) (w .6 .ensures) (w .7 .ensures) (w .7 .kept .1 .1 .1 .1 .0) (w .11) (w .10 .left))
-    (λ w. try-skip (l .inv) (c .before .before .before .loop-test .taken) (sym (c .before .is-barred .ensures) ∙ not-false _ (w .0 .left)) (w .1))
+    (λ w. try-next (λ x y. length-moved _ _ _) (some-left t k) (entry t k .pre .1 .room) (l .inv) (k .loop-test .taken) (w .2 .ensures)
+    (sym b ∙ not-true _ (w .0 .taken)) (w .6 .ensures) (w .7 .ensures) (w .7 .kept .1 .1 .1 .1 .0) (w .11) (w .10 .left))
+    (λ w. try-skip (l .inv) (k .loop-test .taken) (sym b ∙ not-false _ (w .0 .left)) (w .1))
     (c .if3 .came)
 
 dfs-same-length-4 : (t : ℕ) → dfs-lts.Need-same-length-4 (calls t) (dfs-at t) dfs.Post dfs-Inv-loop dfs-μ-loop

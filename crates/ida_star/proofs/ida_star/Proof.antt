@@ -11,10 +11,17 @@ use Rattle.ida_star.proofs.ida_star.Statement.{statement}
 use Rattle.ida_star.proofs.ida_star.Tie as tie
 
 -- nothing is refused
-refused-none : (c : tie.Else1) → searchRefusal (c .before .before .before .before .before .before .before .args .n) (c .before .before .before .before .before .before .before .args .cube .now) (c .before .before .before .before .before .before .before .args .table .now) (c .before .before .before .before .before .before .before .args .depth) (c .before .before .before .before .before .before .before .args .moves .now) (c .before .before .before .before .before .before .before .args .limit) (length (c .before .before .before .before .before .before .before .args .work .now)) (length (c .before .before .before .before .before .before .before .args .out .now)) ≡ 0
+abbrev entry : tie.Else1 → tie.Start
+entry c = c .before .before .before .before .before .before .before
+
+refused-none : (c : tie.Else1)
+    → searchRefusal (entry c .args .n) (entry c .args .cube .now) (entry c .args .table .now) (entry c .args .depth) (entry c .args .moves .now)
+    (entry c .args .limit) (length (entry c .args .work .now)) (length (entry c .args .out .now)) ≡ 0
 refused-none c = sym (c .before .search-refusal .ensures) ∙ c .if1 .left
 
-good : (c : tie.Else1) → Taken (c .before .before .before .before .before .before .before .args .n) (c .before .before .before .before .before .before .before .args .cube .now) (c .before .before .before .before .before .before .before .args .table .now) (c .before .before .before .before .before .before .before .args .depth) (c .before .before .before .before .before .before .before .args .moves .now) (c .before .before .before .before .before .before .before .args .limit) (length (c .before .before .before .before .before .before .before .args .work .now)) (length (c .before .before .before .before .before .before .before .args .out .now))
+good : (c : tie.Else1)
+    → Taken (entry c .args .n) (entry c .args .cube .now) (entry c .args .table .now) (entry c .args .depth) (entry c .args .moves .now)
+    (entry c .args .limit) (length (entry c .args .work .now)) (length (entry c .args .out .now))
 good c = taken _ _ _ _ _ _ _ _ (refused-none c)
 
 search-refusal-requires : tie.Need-search-refusal-requires
@@ -39,23 +46,27 @@ slice-relend-prefix-rise : tie.Need-slice-relend-prefix-rise
 slice-relend-prefix-rise c = good c .starting .room
 
 slice-aggregate-rise : tie.Need-slice-aggregate-rise
-slice-aggregate-rise c = sym (length-take-le _ (c .before .before .before .before .before .before .before .before .args .work .now) (good (c .before) .starting .room))
+slice-aggregate-rise c =
+    sym (length-take-le _ (entry (c .before) .args .work .now) (good (c .before) .starting .room))
 
 rise-requires : tie.Need-rise-requires
 rise-requires c κs =
-    let g = good (c .before .before) in
-    let s = g .starting in
-    (record { given = s .given; whole = s .whole; low = s .low; room = omega (arith, length-take-le _ (c .before .before .before .before .before .before .before .before .before .args .work .now) (s .room)) }, g .slots)
+    let e = c .before .before in
+    let s = good e .starting in
+    (record { given = s .given; whole = s .whole; low = s .low; room = omega (arith, length-take-le _ (entry e .args .work .now) (s .room)) }, good e .slots)
 
 slice-relend-prefix-clear : tie.Need-slice-relend-prefix-clear
 slice-relend-prefix-clear c =
-    let r = c .before .before .before .before .rise in
-    part-fits _ (c .before .before .before .before .before .before .before .before .before .before .before .before .before .before .args .work .now) (r .last .1 .1 .1 .1 .1 .1 .0) (good (c .before .before .before .before .before .before .before) .starting .room) (r .kept .1 .1 .1 .1 .1 .1 .0)
+    let d = c .before .before .before .before in
+    let e = d .before .before .before in
+    part-fits _ (entry e .args .work .now) (d .rise .last .1 .1 .1 .1 .1 .1 .0) (good e .starting .room) (d .rise .kept .1 .1 .1 .1 .1 .1 .0)
 
 slice-aggregate-clear : tie.Need-slice-aggregate-clear
 slice-aggregate-clear c =
-    let r = c .before .before .before .before .before .rise in
-    sym (length-take-le _ _ (part-fits _ (c .before .before .before .before .before .before .before .before .before .before .before .before .before .before .before .args .work .now) (r .last .1 .1 .1 .1 .1 .1 .0) (good (c .before .before .before .before .before .before .before .before) .starting .room) (r .kept .1 .1 .1 .1 .1 .1 .0)))
+    let d = c .before .before .before .before .before in
+    let e = d .before .before .before in
+    sym (length-take-le _ _
+    (part-fits _ (entry e .args .work .now) (d .rise .last .1 .1 .1 .1 .1 .1 .0) (good e .starting .room) (d .rise .kept .1 .1 .1 .1 .1 .1 .0)))
 
 clear-requires : tie.Need-clear-requires
 clear-requires c κs = search needs
@@ -68,9 +79,10 @@ same-length-2 c = search needs
 
 returns-2 : tie.Need-returns-2
 returns-2 c =
-    let r = c .before .before .before .before .before .before .before .before .rise in
-    searched _ (c .before .before .before .before .before .before .before .before .before .before .before .before .before .before .before .before .before .before .args .work .now) (r .last .1 .1 .1 .1 .1 .1 .0) (good (c .before .before .before .before .before .before .before .before .before .before .before) .starting .room) (r .kept .1 .1 .1 .1 .1 .1 .0)
-    (refused-none (c .before .before .before .before .before .before .before .before .before .before .before)) (c .before .before .clear .ensures) (r .ensures)
+    let d = c .before .before .before .before .before .before .before .before in
+    let e = d .before .before .before in
+    searched _ (entry e .args .work .now) (d .rise .last .1 .1 .1 .1 .1 .1 .0) (good e .starting .room) (d .rise .kept .1 .1 .1 .1 .1 .1 .0)
+    (refused-none e) (c .before .before .clear .ensures) (d .rise .ensures)
 
 pub ida-star-spec : {M : Type 1} → statement M
 ida-star-spec =

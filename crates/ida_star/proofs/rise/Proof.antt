@@ -24,18 +24,27 @@ pass-requires c κs =
 
 store-requires : tie.Need-store-requires Inv-loop μ-loop
 store-requires c κs =
-    let l = c .before .before .before .before .before .before .before .before .loop in
-    rise-room (l .inv) (c .before .before .before .before .before .before .before .loop-test .taken) (c .before .before .before .before .before .pass .ensures) (c .before .before .if1 .taken) (omega (arith, c .before .before .before .before .before .before .before .before .before .before .before .before .before .before .pre .1, ap length (l .inv .kept)))
+    let d = c .before .before .before .before .before in
+    let k = d .before .before in
+    let l = k .before .loop in
+    rise-room (l .inv) (k .loop-test .taken) (d .pass .ensures) (c .before .before .if1 .taken)
+    (omega (arith, k .before .before .before .before .before .before .before .pre .1, ap length (l .inv .kept)))
 
 same-length : tie.Need-same-length Inv-loop μ-loop
-same-length c = c .before .before .before .before .before .before .before .before .pass .kept .1 .1 .1 .1 .1 .1 .0 ∙ c .before .before .before .before .before .before .before .before .before .before .before .loop .inv .long
+same-length c =
+    let d = c .before .before .before .before .before .before .before .before in
+    d .pass .kept .1 .1 .1 .1 .1 .1 .0 ∙ d .before .before .before .loop .inv .long
 
 same-length-2 : tie.Need-same-length-2 Inv-loop μ-loop
-same-length-2 c = c .before .before .store .kept .1 .0 ∙ ap length (c .before .before .before .before .before .before .before .before .before .before .before .loop .inv .kept)
+same-length-2 c =
+    let d = c .before .before .before .before .before .before .before .before in
+    c .before .before .store .kept .1 .0 ∙ ap length (d .before .before .before .loop .inv .kept)
 
 returns : tie.Need-returns Inv-loop μ-loop
 returns c =
-    rise-hit (c .before .before .before .before .before .before .before .before .before .before .before .loop .inv) (c .before .before .before .before .before .before .before .before .before .before .loop-test .taken) (c .before .before .before .before .before .before .before .before .pass .ensures) (c .before .before .before .before .before .if1 .taken) (c .before .before .store .ensures)
+    let d = c .before .before .before .before .before .before .before .before in
+    let k = d .before .before in
+    rise-hit (k .before .loop .inv) (k .loop-test .taken) (d .pass .ensures) (c .before .before .before .before .before .if1 .taken) (c .before .before .store .ensures)
 
 add-left : tie.Need-add-left Inv-loop μ-loop
 add-left c = omega arith
@@ -45,7 +54,9 @@ loop-less c = omega arith
 
 loop-again : tie.Need-loop-again Inv-loop μ-loop
 loop-again c =
-    rise-next (c .before .before .before .before .before .before .loop .inv) (c .before .before .before .before .before .loop-test .taken) (c .before .before .before .pass .ensures) (c .if1 .left) (c .before .before .before .pass .kept .1 .1 .1 .1 .1 .1 .0)
+    let d = c .before .before .before in
+    let k = d .before .before in
+    rise-next (k .before .loop .inv) (k .loop-test .taken) (d .pass .ensures) (c .if1 .left) (d .pass .kept .1 .1 .1 .1 .1 .1 .0)
 
 same-length-3 : tie.Need-same-length-3 Inv-loop μ-loop
 same-length-3 c = c .before .loop .inv .long

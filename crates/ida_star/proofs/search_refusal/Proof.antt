@@ -15,19 +15,28 @@ use Rattle.ida_star.proofs.search_refusal.Statement.{statement}
 use Rattle.ida_star.proofs.search_refusal.Tie as tie
 
 -- what each test that was passed tells
-sized : (c : tie.Else1) → not (small (c .before .before .before .before .before .args .n)) ≡ false
+abbrev entry : tie.Else1 → tie.Start
+entry c = c .before .before .before .before .before
+
+sized : (c : tie.Else1) → not (small (entry c .args .n)) ≡ false
 sized c = ap not (sym (c .before .is-small .ensures)) ∙ c .if1 .left
 
-bounds : (c : tie.Else1) → (1 ≤ c .before .before .before .before .before .args .n) × (c .before .before .before .before .before .args .n ≤ 7)
+bounds : (c : tie.Else1) → (1 ≤ entry c .args .n) × (entry c .args .n ≤ 7)
 bounds c = small-bounds _ (not-false _ (sized c))
 
-whole : (c : tie.Else2) → eqb (length (c .before .before .before .before .before .before .args .cube .now)) (stickers (c .before .before .before .before .before .before .args .n)) ≡ true
+whole : (c : tie.Else2) → eqb (length (entry (c .before) .args .cube .now)) (stickers (entry (c .before) .args .n)) ≡ true
 whole c = eq-eqb _ _ (c .if2 .left)
 
-listed : (c : tie.Else3) → listRefusal (c .before .before .before .before .before .before .before .before .args .n) (c .before .before .before .before .before .before .before .before .args .moves .now) ≡ 0
+abbrev deep : tie.Else3 → tie.Start
+deep c = entry (c .before .before .before)
+
+listed : (c : tie.Else3) → listRefusal (deep c .args .n) (deep c .args .moves .now) ≡ 0
 listed c = sym (c .before .list-refusal .ensures) ∙ c .if3 .left
 
-near : (c : tie.Else5) → beyond (length (c .before .before .before .before .before .before .before .before .before .before .before .args .moves .now)) (c .before .before .before .before .before .before .before .before .before .before .before .args .limit) (c .before .before .before .before .before .before .before .before .before .before .before .args .depth) ≡ false
+abbrev deepest : tie.Else5 → tie.Start
+deepest c = deep (c .before .before .before)
+
+near : (c : tie.Else5) → beyond (length (deepest c .args .moves .now)) (deepest c .args .limit) (deepest c .args .depth) ≡ false
 near c = sym (c .before .is-beyond .ensures) ∙ c .if5 .left
 
 is-small-requires : tie.Need-is-small-requires
