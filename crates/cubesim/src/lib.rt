@@ -6,10 +6,14 @@ ghost use Rattle.generic_cube.specs.AllMoves.{AllMovesResult};
 ghost use Rattle.generic_cube.specs.StickerIndex.{stickerRefusal, stickerIndex};
 ghost use Rattle.facelet_cube.specs.Apply.{ApplyMovesResult};
 ghost use Rattle.facelet_cube.specs.Cube.{verdict, verdictNo, verdictValue, SolvedResult, SolvedIdsResult, MaskResult};
+ghost use Rattle.scramble_parser.specs.Parse.{ParseResult, parsedNo, parsedValue};
+ghost use Rattle.scramble_parser.specs.Write.{WriteResult};
+ghost use Rattle.scramble_parser.specs.Lists.{SimplifyResult, InvertResult};
 ghost use Rattle.cubesim.specs.Pack.{pack, Packed};
 use facelet_cube::cube::Verdict;
 use generic_cube::Answer;
 use generic_cube::Done;
+use scramble_parser::Parsed;
 
 fn pack_of(number: u8, value: usize) -> u64
     ensures { λ r. ⌜ r ≡ pack number value ⌝ }
@@ -45,6 +49,16 @@ fn pack_verdict(a: Verdict) -> u64
         Verdict::Solved => pack_of(0, 1),
         Verdict::Unsolved => pack_of(0, 0),
         Verdict::Refused(k) => pack_of(k, 0),
+    }
+}
+
+fn pack_parsed(a: Parsed) -> u64
+    ensures { λ r. ⌜ r ≡ pack (parsedNo a) (parsedValue a) ⌝ }
+{
+    match a {
+        Parsed::Moves(count) => pack_of(0, count),
+        Parsed::Refused(k) => pack_of(k, 0),
+        Parsed::RefusedAt(k, at) => pack_of(k, at),
     }
 }
 
@@ -120,4 +134,36 @@ pub extern "C" fn cubesim_all_moves(n: usize, out: &mut [u16]) -> u64
     ensures { λ r. ⌜ Packed answerNo answerValue (AllMovesResult n (now (out .entry)) (now (out .exit))) r ⌝ }
 {
     pack_answer(generic_cube::moves::all_moves(n, out))
+}
+
+// Reads a scramble.
+#[no_mangle]
+pub extern "C" fn cubesim_parse_scramble(n: usize, text: &[u8], out: &mut [u16]) -> u64
+    ensures { λ r. ⌜ Packed parsedNo parsedValue (ParseResult n (now (text .entry)) (now (out .entry)) (now (out .exit))) r ⌝ }
+{
+    pack_parsed(scramble_parser::parse_scramble(n, text, out))
+}
+
+// Writes a list as a scramble.
+#[no_mangle]
+pub extern "C" fn cubesim_write_scramble(n: usize, moves: &[u16], out: &mut [u8]) -> u64
+    ensures { λ r. ⌜ Packed answerNo answerValue (WriteResult n (now (moves .entry)) (now (out .entry)) (now (out .exit))) r ⌝ }
+{
+    pack_answer(scramble_parser::write::write_scramble(n, moves, out))
+}
+
+// Joins neighbours until none join.
+#[no_mangle]
+pub extern "C" fn cubesim_simplify_moves(n: usize, moves: &[u16], out: &mut [u16]) -> u64
+    ensures { λ r. ⌜ Packed answerNo answerValue (SimplifyResult n (now (moves .entry)) (now (out .entry)) (now (out .exit))) r ⌝ }
+{
+    pack_answer(scramble_parser::lists::simplify_moves(n, moves, out))
+}
+
+// The list that undoes a list.
+#[no_mangle]
+pub extern "C" fn cubesim_invert_moves(n: usize, moves: &[u16], out: &mut [u16]) -> u64
+    ensures { λ r. ⌜ Packed answerNo answerValue (InvertResult n (now (moves .entry)) (now (out .entry)) (now (out .exit))) r ⌝ }
+{
+    pack_answer(scramble_parser::lists::invert_moves(n, moves, out))
 }

@@ -31,13 +31,24 @@ badCode m =
 unfoldable pub readCode : ℕ → Code
 readCode c = pick (badCode (moveOf c)) (Refused 3) (Taken (moveOf c))
 
--- 5: a wide width is 1 to n
-unfoldable pub badWidth : ℕ → Move → Bool
-badWidth n m = pick (isWide (m .kind)) (pick (eqb (m .width) 0) true (ltb n (m .width))) false
+-- 5: a width is outside its range, low to high
+unfoldable pub outside : ℕ → ℕ → ℕ → Bool
+outside low high w = pick (ltb w low) true (ltb high w)
+
+abbrev pub badWidthIn : ℕ → ℕ → Move → Bool
+badWidthIn low high m = pick (isWide (m .kind)) (outside low high (m .width)) false
 
 -- the refusal of a list, the lowest that applies anywhere in it; 0 for none
-unfoldable pub listRefusal : ℕ → List ℕ → ℕ
-listRefusal n cs = pick (any (λ c. badCode (moveOf c)) cs) 3 (pick (any (λ c. badWidth n (moveOf c)) cs) 5 0)
+unfoldable pub refusalIn : ℕ → ℕ → List ℕ → ℕ
+refusalIn low high cs =
+    pick (any (λ c. badCode (moveOf c)) cs) 3 (pick (any (λ c. badWidthIn low high (moveOf c)) cs) 5 0)
+
+-- a wide width is 1 to n for applying, simplifying, inverting and searching
+abbrev pub badWidth : ℕ → Move → Bool
+badWidth n = badWidthIn 1 n
+
+abbrev pub listRefusal : ℕ → List ℕ → ℕ
+listRefusal n cs = refusalIn 1 n cs
 
 -- the search's rule: no two neighbours have the same kind
 unfoldable pub barred : ℕ → ℕ → Bool
