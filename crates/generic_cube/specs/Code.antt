@@ -50,6 +50,10 @@ badWidth n = badWidthIn 1 n
 abbrev pub listRefusal : ℕ → List ℕ → ℕ
 listRefusal n cs = refusalIn 1 n cs
 
+-- the search's rule: no two neighbours have the same kind
+unfoldable pub barred : ℕ → ℕ → Bool
+barred a b = eqb (moveOf a .kind) (moveOf b .kind)
+
 -- document 01's number of each case of a code that was read
 abbrev pub codeNo : Code → ℕ
 codeNo (Taken m) = 0

@@ -3,14 +3,14 @@ use Prim.Native.Nat.{ℕ, zero, suc, _+_, _<_, _≤_}
 use mathlib.Core.Path.{_≡_, refl, ap, sym, _∙_}
 use mathlib.Core.Bool.{Bool, true, false, true≢false}
 use mathlib.Core.Logic.{⊎-elim}
-use mathlib.Core.List.{List, [], _∷_, _++_}
+use mathlib.Core.List.{List, [], _∷_, _++_, List·Memᴰ, List·Memᴰ·not-nil, List·Memᴰ·cases-cons}
 use native.Mathlib.Numerals.{add-one}
 use native.Mathlib.Omega.{arith}
 use native.Mathlib.Nat.{eq-or-lt-of-le}
 use lib.Dec.{eqb}
 use lib.ListN.{length, getD, drop, drop-of-length-le}
 use lib.Seq.{drop-cons}
-use borrow.Author.Tests.{eq-eqb, ne-eqb, eqb-true}
+use borrow.Author.Tests.{eq-eqb, ne-eqb, eqb-true, eqb-false}
 
 -- the first where the test holds, else the second
 abbrev pub pick {ℓ} : {A : Type ℓ} → Bool → A → A → A
@@ -107,6 +107,28 @@ position-found b (x ∷ xs) h =
     bool-cases (eqb x b)
     (λ t. rw t (eqb-true x b t))
     (λ t. rw t (position-found b xs (let k = rw t at h in omega arith)))
+
+-- a list's head is at place 0, any other element one place further than in its tail
+pub position-cases {ℓ} : {A : Type ℓ} (b x : ℕ) (xs : List ℕ) → (x ≡ b → position b (x ∷ xs) ≡ 0 → A)
+    → (position b (x ∷ xs) ≡ suc (position b xs) → A) → A
+unfolding position
+position-cases b x xs f g = bool-cases (eqb x b) (λ t. f (eqb-true x b t) (rw t)) (λ t. g (rw t))
+
+pub position-head : (x : ℕ) (xs : List ℕ) → position x (x ∷ xs) ≡ 0
+unfolding position
+position-head x xs = rw (eq-eqb x x refl)
+
+-- an element has its place in the list, and elements at one place are one
+pub position-below : (b : ℕ) (xs : List ℕ) → List·Memᴰ b xs → position b xs < length xs
+unfolding position
+position-below b [] m = absurd (List·Memᴰ·not-nil m)
+position-below b (x ∷ xs) m =
+    bool-cases (eqb x b) (λ t. rw t (omega arith))
+    (λ t. rw t (⊎-elim (λ e. absurd (eqb-false x b t (sym e))) (λ w. omega (arith, position-below b xs w)) (List·Memᴰ·cases-cons m)))
+
+pub position-one : (a b : ℕ) (xs : List ℕ) → List·Memᴰ a xs → List·Memᴰ b xs → position a xs ≡ position b xs → a ≡ b
+position-one a b xs ma mb e =
+    sym (position-found a xs (position-below a xs ma)) ∙ ap (λ i. getD xs i 0) e ∙ position-found b xs (position-below b xs mb)
 
 -- whether the test holds of a number below m
 unfoldable pub anyBelow : (ℕ → Bool) → ℕ → Bool

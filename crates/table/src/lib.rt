@@ -1,0 +1,125 @@
+// Tables of states and their numbers: their form, and looking a state up. An entry is a key of m bytes, a cube, and one byte, its
+// number; entries stand in rising order of their keys.
+ghost use mathlib.Core.Path.{_≡_};
+ghost use Prim.Native.Nat.{_<_};
+ghost use lib.ListN.{length};
+ghost use Rattle.table.specs.Order.{orderOf};
+ghost use Rattle.table.specs.Table.{keyAt, numberAt, numberOf, wellFormed, Sought};
+ghost use Rattle.table.specs.Asked.{Held, Lookup, Seekable};
+
+// How two keys stand, byte by byte from the front.
+pub enum Order {
+    Less,
+    Same,
+    More,
+}
+
+// Where a key stands among others, or before which of them it would.
+pub enum Spot {
+    At(usize),
+    Gap(usize),
+}
+
+pub fn compare(a: &[u8], b: &[u8]) -> Order
+    requires { ⌜ length (now a) ≡ length (now b) ⌝ }
+    ensures { λ r. ⌜ r ≡ orderOf (now (a .entry)) (now (b .entry)) ⌝ }
+{
+    let mut i = 0;
+    while i < a.len() {
+        if a[i] < b[i] {
+            return Order::Less;
+        }
+        if b[i] < a[i] {
+            return Order::More;
+        }
+        i += 1;
+    }
+    Order::Same
+}
+
+// The key of entry i.
+pub fn key_at(table: &[u8], m: usize, i: usize) -> &[u8]
+    requires { ⌜ Held m (now table) i ⌝ }
+    ensures { λ r. ⌜ now r ≡ keyAt m (now (table .entry)) i ⌝ }
+{
+    let from = i * (m + 1);
+    let to = from + m;
+    &table[from..to]
+}
+
+// The number of entry i.
+pub fn number_at(table: &[u8], m: usize, i: usize) -> u8
+    requires { ⌜ Held m (now table) i ⌝ }
+    ensures { λ r. ⌜ r ≡ numberAt m (now (table .entry)) i ⌝ }
+{
+    let at = i * (m + 1) + m;
+    table[at]
+}
+
+// The number of the entry with that key, walking from the front, or depth + 1 where there is none.
+pub fn number(table: &[u8], m: usize, depth: usize, key: &[u8]) -> usize
+    requires { ⌜ Lookup m (now table) depth (now key) ⌝ }
+    ensures { λ r. ⌜ r ≡ numberOf m (now (table .entry)) depth (now (key .entry)) ⌝ }
+{
+    let count = table.len() / (m + 1);
+    let mut i = 0;
+    while i < count {
+        let order = compare(key_at(table, m, i), key);
+        if let Order::Same = order {
+            return number_at(table, m, i) as usize;
+        }
+        i += 1;
+    }
+    depth + 1
+}
+
+// Whether a table is whole entries with strictly rising keys.
+pub fn is_well_formed(table: &[u8], m: usize) -> bool
+    requires { ⌜ m < 1000 ⌝ }
+    ensures { λ r. ⌜ r ≡ wellFormed m (now (table .entry)) ⌝ }
+{
+    let size = m + 1;
+    if table.len() % size != 0 {
+        return false;
+    }
+    let count = table.len() / size;
+    if count == 0 {
+        return true;
+    }
+    let last = count - 1;
+    let mut i = 0;
+    while i < last {
+        let order = compare(key_at(table, m, i), key_at(table, m, i + 1));
+        if let Order::Less = order {
+            i += 1;
+        } else {
+            return false;
+        }
+    }
+    true
+}
+
+// Where a key stands among the first `count` keys, found by halving.
+pub fn seek(table: &[u8], m: usize, count: usize, key: &[u8]) -> Spot
+    requires { ⌜ Seekable m (now table) count (now key) ⌝ }
+    ensures { λ r. ⌜ Sought (keyAt m (now (table .entry))) count (now (key .entry)) r ⌝ }
+{
+    let mut low = 0;
+    let mut high = count;
+    while low < high {
+        let mid = low + (high - low) / 2;
+        let order = compare(key_at(table, m, mid), key);
+        match order {
+            Order::Same => {
+                return Spot::At(mid);
+            }
+            Order::Less => {
+                low = mid + 1;
+            }
+            Order::More => {
+                high = mid;
+            }
+        }
+    }
+    Spot::Gap(low)
+}
