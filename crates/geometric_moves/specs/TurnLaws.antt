@@ -234,3 +234,25 @@ module _ (n : ℕ) (g : GeometricMove) (j : ℕ) where
 
   pub target-off : NoFace ≡ found n (turnedBy n g (place n j)) → offAt n g j ≡ true
   target-off d = ap not (found-off n (turnedBy n g (place n j)) d)
+
+-- what moving a whole cube asks: a size, a move, and two cubes of that size
+pub record Turnable (n : ℕ) (m : Move) (old new : ℕ) : Type 0 where
+  pub sized : Sized n
+  pub fair : Fair n m
+  pub old-long : old ≡ stickers n
+  pub new-long : new ≡ stickers n
+
+pub fair-back : {n : ℕ} {m : Move} → Fair n m → Fair n (back m)
+fair-back f = record { some = omega arith; most = omega arith; kind = f .kind; width = f .width }
+
+-- a sticker that is turned is found, at an index of the cube
+module _ {n : ℕ} {g : GeometricMove} (j : ℕ) (k : Kept n g) where
+  there : Sticker n (turnedBy n g (place n j))
+  there = kept-sticker k (place n j) (place-sticker n j (k .sized .some))
+
+  pub target-read : {i : ℕ} → At i ≡ found n (turnedBy n g (place n j)) → i < stickers n
+  target-read {i} e =
+      omega (arith, index-below n (turnedBy n g (place n j)) there, found-on n (turnedBy n g (place n j)) e .1)
+
+  pub target-found : NoFace ≡ found n (turnedBy n g (place n j)) → ⊥
+  target-found e = true≢false (sym (sticker-on n (turnedBy n g (place n j)) there) ∙ found-off n (turnedBy n g (place n j)) e)

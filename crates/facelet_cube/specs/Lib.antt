@@ -1,0 +1,2 @@
+pub mod Apply
+pub mod ApplyLaws
