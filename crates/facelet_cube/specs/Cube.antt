@@ -1,16 +1,15 @@
 -- The solved cube with its letters and ids, the solved test, and masks.
 use Prim.Native.Nat.{ℕ, zero, suc, _+_, _*_, _/_}
-use mathlib.Core.Path.{_≡_}
 use mathlib.Core.Bool.{Bool, true, false}
 use mathlib.Core.List.{List, [], _∷_}
 use lib.Dec.{ltb, leb, eqb}
 use lib.ListN.{length, getD, take, drop}
-use Rattle.ground.specs.Choice.{pick, any}
+use Rattle.ground.specs.Choice.{pick, any, all}
 use Rattle.ground.specs.Fill.{tabulate}
 use Rattle.generic_cube.specs.declared.Done.{Done}
-use Rattle.generic_cube.specs.Numbers.{sized, stickers, letters, letterX, done}
-use Rattle.facelet_cube.specs.declared.Solved.{Solved}
-use Rattle.facelet_cube.specs.declared.Solved.the-variants.{Yes, No}
+use Rattle.generic_cube.specs.Numbers.{sized, stickers, letters, letterX, DoneWith}
+use Rattle.facelet_cube.specs.declared.cube.Verdict.{Verdict}
+use Rattle.facelet_cube.specs.declared.cube.Verdict.the-variants.{Solved, Unsolved, Refused}
 
 -- 1: the size; 2: the slice isn't 6n² long
 unfoldable pub cubeRefusal : ℕ → ℕ → ℕ
@@ -24,40 +23,37 @@ solvedCube n = tabulate (stickers n) (λ j. getD letters (j / n / n) 0)
 unfoldable pub solvedIds : ℕ → List ℕ
 solvedIds n = tabulate (stickers n) (λ j. j)
 
-pub record SolvedResult (n : ℕ) (cube cube′ : List ℕ) (r : Done) : Type 0 where
-  pub answered : r ≡ done (cubeRefusal n (length cube))
-  pub cube-is : cube′ ≡ pick (eqb (cubeRefusal n (length cube)) 0) (solvedCube n) cube
+abbrev pub SolvedResult : ℕ → List ℕ → List ℕ → Done → Type 0
+SolvedResult n cube cube′ r = DoneWith (cubeRefusal n (length cube)) (solvedCube n) cube cube′ r
 
-pub record SolvedIdsResult (n : ℕ) (ids ids′ : List ℕ) (r : Done) : Type 0 where
-  pub answered : r ≡ done (cubeRefusal n (length ids))
-  pub ids-is : ids′ ≡ pick (eqb (cubeRefusal n (length ids)) 0) (solvedIds n) ids
+abbrev pub SolvedIdsResult : ℕ → List ℕ → List ℕ → Done → Type 0
+SolvedIdsResult n ids ids′ r = DoneWith (cubeRefusal n (length ids)) (solvedIds n) ids ids′ r
 
 -- solved: each face shows one byte
 unfoldable pub oneByte : List ℕ → Bool
-oneByte [] = true
-oneByte (b ∷ bs) = pick (any (λ x. pick (eqb x b) false true) bs) false true
+oneByte bs = all (λ b. eqb b (getD bs 0 0)) bs
 
 -- the stickers of face k, in the order of the faces
-abbrev pub faceOf : ℕ → ℕ → List ℕ → List ℕ
-faceOf n k cube = take (n * n) (drop (k * (n * n)) cube)
+abbrev pub faceAt : ℕ → ℕ → List ℕ → List ℕ
+faceAt n k cube = take (n * n) (drop (k * (n * n)) cube)
 
 unfoldable pub isSolved : ℕ → List ℕ → Bool
-isSolved n cube = pick (any (λ k. pick (oneByte (faceOf n k cube)) false true) (0 ∷ 1 ∷ 2 ∷ 3 ∷ 4 ∷ 5 ∷ [])) false true
+isSolved n cube = all (λ k. oneByte (faceAt n k cube)) (0 ∷ 1 ∷ 2 ∷ 3 ∷ 4 ∷ 5 ∷ [])
 
-unfoldable pub solvedAnswer : ℕ → List ℕ → Solved
-solvedAnswer n cube =
-    pick (eqb (cubeRefusal n (length cube)) 0) (pick (isSolved n cube) Yes No) (Solved.Refused (cubeRefusal n (length cube)))
+unfoldable pub verdict : ℕ → List ℕ → Verdict
+verdict n cube =
+    pick (eqb (cubeRefusal n (length cube)) 0) (pick (isSolved n cube) Solved Unsolved) (Refused (cubeRefusal n (length cube)))
 
 -- document 01's number and value of each case: 1 solved, 0 not
-abbrev pub solvedNo : Solved → ℕ
-solvedNo Yes = 0
-solvedNo No = 0
-solvedNo (Solved.Refused k) = k
+abbrev pub verdictNo : Verdict → ℕ
+verdictNo Solved = 0
+verdictNo Unsolved = 0
+verdictNo (Refused k) = k
 
-abbrev pub solvedValue : Solved → ℕ
-solvedValue Yes = 1
-solvedValue No = 0
-solvedValue (Solved.Refused k) = 0
+abbrev pub verdictValue : Verdict → ℕ
+verdictValue Solved = 1
+verdictValue Unsolved = 0
+verdictValue (Refused k) = 0
 
 -- 1: the size; 2: the cube, the ids or the keep slice isn't 6n² long; 10: any id is 6n² or more
 unfoldable pub maskRefusal : ℕ → ℕ → List ℕ → ℕ → ℕ
@@ -74,6 +70,5 @@ maskRefusal n cube ids keep =
 unfoldable pub masked : ℕ → List ℕ → List ℕ → List ℕ → List ℕ
 masked n cube ids keep = tabulate (stickers n) (λ j. pick (eqb (getD keep (getD ids j 0) 0) 0) letterX (getD cube j 0))
 
-pub record MaskResult (n : ℕ) (cube ids keep cube′ : List ℕ) (r : Done) : Type 0 where
-  pub answered : r ≡ done (maskRefusal n (length cube) ids (length keep))
-  pub cube-is : cube′ ≡ pick (eqb (maskRefusal n (length cube) ids (length keep)) 0) (masked n cube ids keep) cube
+abbrev pub MaskResult : ℕ → List ℕ → List ℕ → List ℕ → List ℕ → Done → Type 0
+MaskResult n cube ids keep cube′ r = DoneWith (maskRefusal n (length cube) ids (length keep)) (masked n cube ids keep) cube cube′ r

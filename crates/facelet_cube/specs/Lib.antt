@@ -1,2 +1,4 @@
 pub mod Apply
 pub mod ApplyLaws
+pub mod Cube
+pub mod CubeLaws

@@ -4,6 +4,7 @@ ghost use Rattle.geometric_moves.specs.Turn.{back};
 ghost use Rattle.generic_cube.specs.CodeLaws.{Fair};
 ghost use Rattle.facelet_cube.specs.Apply.{applyRefusal};
 
+pub mod cube;
 pub mod ids;
 pub mod letters;
 

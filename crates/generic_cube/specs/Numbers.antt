@@ -1,9 +1,11 @@
 -- Numbers: the sizes of a cube, the letters of its faces, and the answers that carry a refusal's number.
 use Prim.Native.Nat.{ℕ, _*_}
+use mathlib.Core.Path.{_≡_, _∙_}
 use mathlib.Core.Bool.{Bool, true, false}
 use mathlib.Core.List.{List, [], _∷_}
 use lib.Dec.{ltb, leb, eqb}
 use lib.ListN.{getD}
+use borrow.Author.Tests.{ne-eqb}
 use Rattle.ground.specs.Choice.{pick}
 use Rattle.generic_cube.specs.declared.Done.{Done}
 use Rattle.generic_cube.specs.declared.Done.the-variants.{Ok}
@@ -46,3 +48,14 @@ answerNo (Answer.Refused k) = k
 abbrev pub answerValue : Answer → ℕ
 answerValue (Value value) = value
 answerValue (Answer.Refused k) = 0
+
+-- the result of an entry that changes one lent slice: `good` where nothing is refused, else what it was
+pub record DoneWith (k : ℕ) (good old new : List ℕ) (r : Done) : Type 0 where
+  pub answered : r ≡ done k
+  pub left : new ≡ pick (eqb k 0) good old
+
+pub with-refused : {k k′ : ℕ} {good old : List ℕ} → k′ ≡ k → (k′ ≡ 0 → ⊥) → DoneWith k good old old (Done.Refused k′)
+with-refused e z = record { answered = simp (← e, ne-eqb _ _ z); left = simp (← e, ne-eqb _ _ z) }
+
+pub with-done : {k : ℕ} {good old new : List ℕ} → k ≡ 0 → new ≡ good → DoneWith k good old new Ok
+with-done e d = record { answered = rw e; left = d ∙ rw e }

@@ -27,6 +27,11 @@ unfoldable pub any : (ℕ → Bool) → List ℕ → Bool
 any p [] = false
 any p (x ∷ xs) = pick (p x) true (any p xs)
 
+-- whether the test holds of every element of the list
+unfoldable pub all : (ℕ → Bool) → List ℕ → Bool
+all p [] = true
+all p (x ∷ xs) = pick (p x) (all p xs) false
+
 -- the place of the first element that is b, the list's length where none is
 unfoldable pub position : ℕ → List ℕ → ℕ
 position b [] = 0
@@ -45,6 +50,18 @@ module _ (p : ℕ → Bool) (xs : List ℕ) (i : ℕ) where
   pub any-end : length xs ≤ i → any p (drop i xs) ≡ false
   unfolding any
   any-end h = rw (drop-of-length-le xs h)
+
+  pub all-here : i < length xs → p (getD xs i 0) ≡ false → all p (drop i xs) ≡ false
+  unfolding all
+  all-here h t = rw (drop-cons xs i 0 h, t)
+
+  pub all-next : i < length xs → p (getD xs i 0) ≡ true → all p (drop i xs) ≡ all p (drop (i + 1) xs)
+  unfolding all
+  all-next h t = rw (add-one i, drop-cons xs i 0 h, t)
+
+  pub all-end : length xs ≤ i → all p (drop i xs) ≡ true
+  unfolding all
+  all-end h = rw (drop-of-length-le xs h)
 
 -- where the test holds of no element, it fails at each
 pub any-none : (p : ℕ → Bool) (xs : List ℕ) → any p xs ≡ false → (i : ℕ) → i < length xs → p (getD xs i 0) ≡ false

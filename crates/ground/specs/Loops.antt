@@ -1,10 +1,10 @@
 -- What a loop that fills a slice from the front keeps true, whatever it fills it with.
 use Prim.Native.Nat.{ℕ, _+_, _<_, _≤_}
-use mathlib.Core.Path.{_≡_, refl, ap, sym, _∙_}
+use mathlib.Core.Path.{_≡_, refl, ap, sym, subst, _∙_}
 use mathlib.Core.List.{List}
 use native.Mathlib.Omega.{arith}
 use lib.ListN.{length, getD, set, length-set, replicate, length-replicate, getD-replicate}
-use lib.Seq.{ext-getD}
+use lib.Seq.{ext-getD, getD-set-other, set-getD}
 use Rattle.ground.specs.Fill.{tabulate, length-tabulate, tabulated, Filled, filled-none, filled-more}
 
 -- `l`, once `l₀`, has its first j places done
@@ -37,3 +37,24 @@ pub cleared : {l₀ l : List ℕ} {j : ℕ} → Filling (λ k. 0) l₀ l j → l
 cleared {l₀} {l} {j} g h =
     ext-getD 0 l (replicate (length l₀) 0) (g .long ∙ sym (length-replicate (length l₀) 0))
     (λ i k. let e = g .long in g .done i (omega arith) ∙ sym (getD-replicate (length l₀) i 0 0 (omega arith)))
+
+-- `l`, once `l₀`, has its first j places done, and the others as they were
+pub record Changing (f : ℕ → ℕ) (l₀ l : List ℕ) (j : ℕ) : Type 0 where
+  pub filling : Filling f l₀ l j
+  pub rest : (k : ℕ) → j ≤ k → getD l k 0 ≡ getD l₀ k 0
+
+module _ {f : ℕ → ℕ} {l₀ : List ℕ} where
+  pub change-none : Changing f l₀ l₀ 0
+  change-none = record { filling = fill-none; rest = λ k h. refl }
+
+  pub change-set : {l : List ℕ} {j v : ℕ} → Changing f l₀ l j → j < length l → v ≡ f j → Changing f l₀ (set l j v) (j + 1)
+  change-set {l} {j} {v} c h e =
+      record {
+        filling = fill-more (c .filling) h e;
+        rest = λ k hk. getD-set-other l j k v 0 (omega arith) ∙ c .rest k (omega arith);
+      }
+
+  -- an element that stays is one that is written back
+  pub change-keep : {l : List ℕ} {j : ℕ} → Changing f l₀ l j → j < length l → getD l₀ j 0 ≡ f j → Changing f l₀ l (j + 1)
+  change-keep {l} {j} c h e =
+      subst (λ (x : List ℕ). Changing f l₀ x (j + 1)) (set-getD l j 0) (change-set c h (c .rest j (omega arith) ∙ e))
