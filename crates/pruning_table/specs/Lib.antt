@@ -3,3 +3,7 @@ pub mod AddLaws
 pub mod Held
 pub mod HeldLaws
 pub mod ShiftLaws
+pub mod ComeLaws
+pub mod WalkLaws
+pub mod SizeLaws
+pub mod StageLaws

@@ -1,4 +1,5 @@
 -- `add`: the key is there, or there is no room, or the entry goes into its gap.
+use Rattle.pruning_table.specs.ComeLaws.{added-there, added-before, added-full}
 use mathlib.Core.Path.{refl, subst}
 use native.Mathlib.Omega.{arith}
 use Rattle.table.specs.Table.{keyAt, Between, Sought}
@@ -32,7 +33,7 @@ returns : tie.Need-returns
 returns c =
     let a = c .before .before .before .before .before .before in
     let w = subst (Sought (keyAt (a .args .m) (a .args .table .now)) (a .args .count) (a .args .key .now)) (c .enum-told .given .1) (c .before .before .seek .ensures) in
-    (held-there (a .pre .ordered) _ _ (w .0) (w .1), refl)
+    added-there (held-there (a .pre .ordered) _ _ (w .0) (w .1)) refl
 
 add-if1 : tie.Need-add-if1
 add-if1 c = search needs
@@ -44,7 +45,7 @@ same-length-2 : tie.Need-same-length-2
 same-length-2 c = search needs
 
 returns-2 : tie.Need-returns-2
-returns-2 c = no-room (c .before .before .before .before .before .before .before .before .pre) (gap (c .before .before)) _ (c .if1 .taken)
+returns-2 c = added-full (no-room (c .before .before .before .before .before .before .before .before .pre) (gap (c .before .before)) _ (c .if1 .taken))
 
 add-insert : tie.Need-add-insert
 add-insert c = search needs
@@ -65,7 +66,7 @@ same-length-3 : tie.Need-same-length-3
 same-length-3 c = search needs
 
 returns-3 : tie.Need-returns-3
-returns-3 c = placed (c .before .before .before .before .before .before .before .before .before .before .before .before .pre) (gap (c .before .before .before .before .before .before)) (c .before .before .before .before .if1 .left) (c .before .before .insert .ensures)
+returns-3 c = added-before (placed (c .before .before .before .before .before .before .before .before .before .before .before .before .pre) (gap (c .before .before .before .before .before .before)) (c .before .before .before .before .if1 .left) (c .before .before .insert .ensures))
 
 pub add-spec : {M : Type 1} → statement M
 add-spec =
