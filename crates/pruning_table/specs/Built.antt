@@ -66,21 +66,25 @@ startsOf n starts = cubes (stickers n) (length starts / stickers n) starts
 abbrev pub tableOf : ℕ → List ℕ → List ℕ → ℕ → List Entry
 tableOf n starts moves depth = built n (startsOf n starts) moves depth
 
--- the refusals that come before building: 1, 2, 3 and 5 of the list, 7, 11
-unfoldable pub earlyRefusal : ℕ → List ℕ → List ℕ → ℕ → ℕ
+-- the refusals that come before building: 1, 2, 3 and 5 of the list, 7, 11; the starting cubes by their length
+unfoldable pub earlyRefusal : ℕ → ℕ → List ℕ → ℕ → ℕ
 earlyRefusal n starts moves depth =
     pick (not (small n)) 1
-    (pick (not (eqb (length starts % stickers n) 0)) 2
+    (pick (not (eqb (starts % stickers n) 0)) 2
     (pick (not (eqb (listRefusal n moves) 0)) (listRefusal n moves)
     (pick (ltb 255 (length moves)) 7
     (pick (ltb 20 depth) 7
     (pick (listOff n moves) 11 0)))))
 
--- and 6 last: exactly if the states outnumber the entries that fit
+-- the states outnumber the entries that fit
+abbrev pub outnumbered : ℕ → List ℕ → List ℕ → ℕ → List ℕ → Bool
+outnumbered n starts moves depth table = ltb (entries (stickers n) table) (length (tableOf n starts moves depth))
+
+-- 6 comes last, exactly if they do
 unfoldable pub pruningRefusal : ℕ → List ℕ → List ℕ → ℕ → List ℕ → ℕ
 pruningRefusal n starts moves depth table =
-    pick (not (eqb (earlyRefusal n starts moves depth) 0)) (earlyRefusal n starts moves depth)
-    (pick (ltb (entries (stickers n) table) (length (tableOf n starts moves depth))) 6 0)
+    pick (eqb (earlyRefusal n (length starts) moves depth) 0) (pick (outnumbered n starts moves depth table) 6 0)
+    (earlyRefusal n (length starts) moves depth)
 
 -- bytes over the front of a slice, what lies past them stays
 abbrev pub over : List ℕ → List ℕ → List ℕ
@@ -89,8 +93,9 @@ over b l = b ++ drop (length b) l
 -- bytes after the used entries stay; after 6 the whole buffer is zero; no other refusal changes it
 unfoldable pub pruningOut : ℕ → List ℕ → List ℕ → ℕ → List ℕ → List ℕ
 pruningOut n starts moves depth table =
-    pick (eqb (pruningRefusal n starts moves depth table) 0) (over (bytes (tableOf n starts moves depth)) table)
-    (pick (eqb (pruningRefusal n starts moves depth table) 6) (replicate (length table) 0) table)
+    pick (eqb (earlyRefusal n (length starts) moves depth) 0)
+    (pick (outnumbered n starts moves depth table) (replicate (length table) 0) (over (bytes (tableOf n starts moves depth)) table))
+    table
 
 -- what `pruning_table` answers and leaves in its buffer
 pub record PruningTableResult (n : ℕ) (starts moves : List ℕ) (depth : ℕ) (table table′ : List ℕ) (r : Answer) : Type 0 where

@@ -7,3 +7,4 @@ pub mod ComeLaws
 pub mod WalkLaws
 pub mod SizeLaws
 pub mod StageLaws
+pub mod ResultLaws

@@ -17,7 +17,7 @@ use Rattle.pruning_table.specs.HeldLaws.{length-held, grew-none, grew-tw
 use Rattle.pruning_table.specs.WalkLaws.{walk-none, walk-two, walk-held, next-step, visit-on, cubes-step, built-next, built-more}
 
 -- entries for which a slice that grew has no room had none before
-over-grew : {m count count′ : ℕ} {now : List Entry} {t t′ : List ℕ} → Grew m now t count t′ count′ → (table : List Entry) → entries m t′ < length table
+pub over-grew : {m count count′ : ℕ} {now : List Entry} {t t′ : List ℕ} → Grew m now t count t′ count′ → (table : List Entry) → entries m t′ < length table
     → entries m t < length table
 over-grew {m} g table h = subst (λ (k : ℕ). k / (m + 1) < length table) (g .long) h
 
@@ -27,6 +27,10 @@ grew-room {m} {count′ = count′} g = subst (λ (k : ℕ). count′ ≤ k / (m
 
 pub grew-held : {m count count′ : ℕ} {table : List Entry} {t t′ : List ℕ} → Grew m table t count t′ count′ → Grew m (held m count′ t′) t count t′ count′
 grew-held {m} {count} {count′} {table} {t} {t′} g = subst (λ (l : List Entry). Grew m l t count t′ count′) (sym (g .holds)) g
+
+-- nothing more
+pub grew-self : {m count count′ : ℕ} {table : List Entry} {t t′ : List ℕ} → Grew m table t count t′ count′ → Grew m table t′ count′ t′ count′
+grew-self g = record { ordered = g .ordered; holds = g .holds; more = omega arith; past = refl; long = refl }
 
 pub grew-table : {m count count′ : ℕ} {table table′ : List Entry} {t t′ : List ℕ} → table ≡ table′ → Grew m table t count t′ count′ → Grew m table′ t count t′ count′
 grew-table {m} {count} {count′} {t = t} {t′ = t′} e g = subst (λ (l : List Entry). Grew m l t count t′ count′) e g
@@ -184,14 +188,14 @@ module _ {n d : ℕ} {moves t₀ : List ℕ} {count₀ : ℕ} where
       (g .grew)
 
 -- the levels up to d are built
-module _ (n d : ℕ) (starts : List (List ℕ)) (moves : List ℕ) {t₀ t : List ℕ} {count : ℕ} (g : Grew (stickers n) (built n starts moves d) t₀ 0 t count) where
+module _ (n d : ℕ) (starts : List (List ℕ)) (moves : List ℕ) {t₀ t : List ℕ} {first count : ℕ} (g : Grew (stickers n) (built n starts moves d) t₀ first t count) where
   deeper : addAll (d + 1) (spread n moves (frontier d (held (stickers n) count t))) (held (stickers n) count t) ≡ built n starts moves (d + 1)
   deeper =
       ap₂ (λ (a b : List Entry). addAll (d + 1) (spread n moves (frontier d a)) b) (g .holds) (g .holds) ∙ sym (built-next n starts moves d)
 
   pub built-on : {t′ : List ℕ} {count′ : ℕ}
       → Grew (stickers n) (addAll (d + 1) (spread n moves (frontier d (held (stickers n) count t))) (held (stickers n) count t)) t count t′ count′
-      → Grew (stickers n) (built n starts moves (d + 1)) t₀ 0 t′ count′
+      → Grew (stickers n) (built n starts moves (d + 1)) t₀ first t′ count′
   built-on w = grew-table deeper (grew-two g w)
 
   pub built-over : (depth : ℕ) → d < depth

@@ -238,3 +238,72 @@ fn build(
     }
     Growth::To(count)
 }
+
+// The same, with room for two cubes.
+fn fill(table: &mut [u8], n: usize, starts: &[u8], moves: &[u16], depth: usize) -> Growth
+    requires { ⌜ Ready n depth (now moves) (stickers n) (stickers n) ⌝ }
+    ensures { λ r. ⌜ Grown (stickers n) (tableOf n (now (starts .entry)) (now (moves .entry)) depth) (now (table .entry)) 0 (now (table .exit)) r ⌝ }
+{
+    let m = 6 * n * n;
+    let mut cube = [0u8; 294];
+    let mut next = [0u8; 294];
+    build(
+        table,
+        n,
+        starts,
+        moves,
+        depth as u8,
+        &mut cube[..m],
+        &mut next[..m],
+    )
+}
+
+// The lowest refusal that comes before building, 0 for none.
+fn early_refusal(n: usize, starts: usize, moves: &[u16], depth: usize) -> u8
+    ensures { λ r. ⌜ r ≡ earlyRefusal n starts (now (moves .entry)) depth ⌝ }
+{
+    if n < 1 {
+        return 1;
+    }
+    if 7 < n {
+        return 1;
+    }
+    if starts % (6 * n * n) != 0 {
+        return 2;
+    }
+    let number = generic_cube::list_refusal(n, moves);
+    if number != 0 {
+        return number;
+    }
+    if 255 < moves.len() {
+        return 7;
+    }
+    if 20 < depth {
+        return 7;
+    }
+    if geometric_moves::list_off(n, moves) {
+        return 11;
+    }
+    0
+}
+
+// The table of the states reachable from the starting cubes by at most `depth` candidates, each with the least such count.
+pub fn pruning_table(
+    n: usize,
+    starts: &[u8],
+    moves: &[u16],
+    depth: usize,
+    table: &mut [u8],
+) -> Answer
+    ensures { λ r. ⌜ PruningTableResult n (now (starts .entry)) (now (moves .entry)) depth (now (table .entry)) (now (table .exit)) r ⌝ }
+{
+    let number = early_refusal(n, starts.len(), moves, depth);
+    if number != 0 {
+        return Answer::Refused(number);
+    }
+    let Growth::To(count) = fill(table, n, starts, moves, depth) else {
+        ground::bytes::clear(table);
+        return Answer::Refused(6);
+    };
+    Answer::Value(count)
+}
