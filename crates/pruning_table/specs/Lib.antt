@@ -8,3 +8,7 @@ pub mod WalkLaws
 pub mod SizeLaws
 pub mod StageLaws
 pub mod ResultLaws
+pub mod Exact
+pub mod CountLaws
+pub mod RisingLaws
+pub mod ExactLaws
