@@ -39,6 +39,10 @@ badWidth n m = pick (isWide (m .kind)) (pick (eqb (m .width) 0) true (ltb n (m .
 unfoldable pub listRefusal : ℕ → List ℕ → ℕ
 listRefusal n cs = pick (any (λ c. badCode (moveOf c)) cs) 3 (pick (any (λ c. badWidth n (moveOf c)) cs) 5 0)
 
+-- the search's rule: no two neighbours have the same kind
+unfoldable pub barred : ℕ → ℕ → Bool
+barred a b = eqb (moveOf a .kind) (moveOf b .kind)
+
 -- document 01's number of each case of a code that was read
 abbrev pub codeNo : Code → ℕ
 codeNo (Taken m) = 0

@@ -5,6 +5,7 @@ use mathlib.Core.Bool.{Bool, true, false, true≢false}
 use mathlib.Core.List.{List, [], _∷_}
 use native.Mathlib.Omega.{arith}
 use native.Mathlib.Numerals.{add-one}
+use native.Mathlib.Nat.{mul-le-mul}
 use lib.Dec.{ltb, leb, eqb}
 use lib.ListN.{length, getD, drop, drop-of-length-le}
 use lib.Seq.{drop-cons}
@@ -13,7 +14,7 @@ use Rattle.ground.specs.Choice.{pick, bool-cases, any, any-none}
 use Rattle.generic_cube.specs.declared.Move.{Move}
 use Rattle.generic_cube.specs.declared.Code.{Code}
 use Rattle.generic_cube.specs.declared.Code.the-variants.{Taken, Refused}
-use Rattle.generic_cube.specs.Numbers.{sized}
+use Rattle.generic_cube.specs.Numbers.{sized, small, beyond, stickers}
 use Rattle.generic_cube.specs.Code.{codeOf, moveOf, isWide, badCode, readCode, badWidth, listRefusal}
 
 -- a size that is in range
@@ -23,6 +24,32 @@ sized-bounds n e =
     bool-cases (ltb n 1)
     (λ t. absurd (true≢false (sym (rw t at e))))
     (λ t. (ltb-false n 1 t, leb-true n 104 (rw t at e)))
+
+pub small-bounds : (n : ℕ) → small n ≡ true → (1 ≤ n) × (n ≤ 7)
+unfolding small
+small-bounds n e =
+    bool-cases (ltb n 1)
+    (λ t. absurd (true≢false (sym (rw t at e))))
+    (λ t. (ltb-false n 1 t, leb-true n 7 (rw t at e)))
+
+-- a cube of such a size
+pub small-cube : (n : ℕ) → n ≤ 7 → stickers n ≤ 294
+small-cube n h = mul-le-mul {n₁ = 6 * n} {m₁ = n} {n₂ = 42} {m₂ = 7} (omega arith) h
+
+-- candidates, limit and depth in range
+pub record InReach (count limit depth : ℕ) : Type 0 where
+  pub few : count ≤ 255
+  pub low : limit ≤ 20
+  pub shallow : depth ≤ 20
+
+pub in-reach : (count limit depth : ℕ) → beyond count limit depth ≡ false → InReach count limit depth
+unfolding beyond
+in-reach count limit depth e =
+    bool-cases (ltb 255 count)
+    (λ t. absurd (true≢false (rw t at e)))
+    (λ t. bool-cases (ltb 20 limit)
+    (λ u. absurd (true≢false (rw (t, u) at e)))
+    (λ u. record { few = ltb-false _ _ t; low = ltb-false _ _ u; shallow = ltb-false _ _ (rw (t, u) at e) }))
 
 -- what is known of a move that is taken and of a width in range
 pub record Fair (n : ℕ) (m : Move) : Type 0 where

@@ -16,6 +16,14 @@ use Rattle.generic_cube.specs.declared.Answer.the-variants.{Value}
 unfoldable pub sized : ℕ → Bool
 sized n = pick (ltb n 1) false (leb n 104)
 
+-- tables and search: n 1 to 7
+unfoldable pub small : ℕ → Bool
+small n = pick (ltb n 1) false (leb n 7)
+
+-- 7: more than 255 candidates, or limit or depth above 20
+unfoldable pub beyond : ℕ → ℕ → ℕ → Bool
+beyond count limit depth = pick (ltb 255 count) true (pick (ltb 20 limit) true (ltb 20 depth))
+
 -- a cube has 6n² stickers
 abbrev pub stickers : ℕ → ℕ
 stickers n = 6 * n * n

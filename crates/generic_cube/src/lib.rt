@@ -1,6 +1,6 @@
 // Sizes, move codes and lists of them: generic_cube.rs.
 ghost use mathlib.Core.Path.{_≡_};
-ghost use Rattle.generic_cube.specs.Numbers.{sized};
+ghost use Rattle.generic_cube.specs.Numbers.{sized, small, beyond};
 ghost use Rattle.generic_cube.specs.Code.{isWide, badWidth, readCode, listRefusal};
 
 pub mod moves;
@@ -39,6 +39,29 @@ pub fn is_size(n: usize) -> bool
         return false;
     }
     n <= 104
+}
+
+// The sizes of tables and search, 1 to 7.
+pub fn is_small(n: usize) -> bool
+    ensures { λ r. ⌜ r ≡ small n ⌝ }
+{
+    if n < 1 {
+        return false;
+    }
+    n <= 7
+}
+
+// More than 255 candidates, or a limit or depth above 20.
+pub fn is_beyond(count: usize, limit: usize, depth: usize) -> bool
+    ensures { λ r. ⌜ r ≡ beyond count limit depth ⌝ }
+{
+    if 255 < count {
+        return true;
+    }
+    if 20 < limit {
+        return true;
+    }
+    20 < depth
 }
 
 // Kinds 6 to 11 have a width.

@@ -1,14 +1,15 @@
 -- Demand 3: with numbers that are never too high, the answer of the rising passes is the best one, and there is but one such answer.
 use Prim.Native.Nat.{ℕ, zero, suc, _≤_, _<_}
 use mathlib.Core.Path.{_≡_, refl, sym, ap, ap₂, subst, _∙_}
-use mathlib.Core.Logic.{_⊎_, inl, inr, ⊎-elim}
+use mathlib.Core.Logic.{inl, inr, ⊎-elim}
 use mathlib.Core.List.{List, [], _∷_, List·Memᴰ, Memᴰ·cast}
 use native.Mathlib.Omega.{arith}
 use lib.ListN.{length}
 use Rattle.ground.specs.Choice.{position, position-one}
 use Rattle.ground.specs.Sides.{less-cases, order-cases}
-use Rattle.search_theory.specs.Search.{Reply, none, found, or, Last, start, after, Task, dfs, passes, ida, run, Solves, Leads, Admissible, Foremost, Best}
-use Rattle.search_theory.specs.SearchLaws.{never, or-found, or-none, tried-none, Way, visited, missed, no-goal, Ends, ends-next, solves-ends, ends-solves, Sound, sound}
+use Rattle.search_theory.specs.Search.{Reply, none, found, Task, passes, ida, run, Solves, Leads, Admissible, Best}
+use Rattle.search_theory.specs.SearchLaws.{never, or-found, or-none}
+use Rattle.search_theory.specs.Seek.{seek, sought-none, Way, visited, missed, no-goal, Ends, ends-next, solves-ends, ends-solves, sound, dfs-start}
 
 -- states that the candidates keep
 abbrev pub Kept : Task → (List ℕ → Type 0) → Type 0
@@ -16,16 +17,16 @@ Kept t State = (c : ℕ) → List·Memᴰ c (t .candidates) → (s : List ℕ) �
 
 module _ (t : Task) (State : List ℕ → Type 0) (kept : Kept t State) (low : Admissible t State) where
   -- none: no list within the moves left reaches a goal
-  pub complete : (k : ℕ) {l : Last} {s : List ℕ} (q : List ℕ) → State s → dfs t k l s ≡ none → Ends t l s q → length q ≤ k → ⊥
+  pub complete : (k : ℕ) {l s : List ℕ} (q : List ℕ) → State s → seek t k l s ≡ none → Ends t l s q → length q ≤ k → ⊥
   unfolding run
   complete k {l} {s} [] st e a b = no-goal t k l s e (a .goal)
   complete zero (c ∷ q) st e a b = omega arith
   complete (suc k) {l} {s} (c ∷ q) st e a b =
       let n : t .number s ≤ length (c ∷ q) = low s st (c ∷ q) (ends-solves t a) in
-      complete k q (kept c (a .follows .0) s st) (tried-none t k l s c (a .follows .1) (missed t k l s e (omega arith) (a .follows .0))) (ends-next t a) (omega arith)
+      complete k q (kept c (a .follows .0) s st) (sought-none t k l s c (a .follows .1) (missed t k l s e (omega arith) (a .follows .0))) (ends-next t a) (omega arith)
 
   -- a list: none of its length is before it
-  pub foremost : (k : ℕ) {l : Last} {s : List ℕ} (p q : List ℕ) → State s → dfs t k l s ≡ found p → Ends t l s q → length q ≡ length p → Leads t p q
+  pub foremost : (k : ℕ) {l s : List ℕ} (p q : List ℕ) → State s → seek t k l s ≡ found p → Ends t l s q → length q ≡ length p → Leads t p q
   foremost k [] q st e a h = tt
   foremost k (x ∷ p) [] st e a h = omega arith
   foremost zero (x ∷ p) (y ∷ q) st e a h = absurd (omega (arith, sound t zero e .within))
@@ -33,12 +34,12 @@ module _ (t : Task) (State : List ℕ → Type 0) (kept : Kept t State) (low : A
       visited t e (λ g n. let z : _≡_ {A = ℕ} 0 1 = cc in absurd (omega arith))
       (λ w. split w (λ d. foremost k p q (kept y (a .follows .0) s st) d (ends-next t a) (omega arith)))
     where
-      split : Way t k l s (x ∷ p) → (dfs t k (after y) (t .moved y s) ≡ found p → Leads t p q) → Leads t (x ∷ p) (y ∷ q)
+      split : Way t k l s (x ∷ p) → (seek t k (y ∷ []) (t .moved y s) ≡ found p → Leads t p q) → Leads t (x ∷ p) (y ∷ q)
       split w rest =
           let at : w .at ≡ x = cc (w .is) in
           order-cases (position y (t .candidates)) (position x (t .candidates))
           (λ lt. absurd (complete k q (kept y (a .follows .0) s st)
-          (tried-none t k l s y (a .follows .1) (w .before y (subst (λ z. position y (t .candidates) < position z (t .candidates)) (sym at) lt)))
+          (sought-none t k l s y (a .follows .1) (w .before y (subst (λ z. position y (t .candidates) < position z (t .candidates)) (sym at) lt)))
           (ends-next t a) (omega (arith, sound t (suc k) e .within))))
           (λ eq.
           let xy : x ≡ y = position-one x y (t .candidates) (Memᴰ·cast (sym at) (w .member)) (a .follows .0) (sym eq) in
@@ -49,13 +50,13 @@ module _ (t : Task) (State : List ℕ → Type 0) (kept : Kept t State) (low : A
   passes-none : (n : ℕ) {s : List ℕ} → State s → passes t n s ≡ none → (q : List ℕ) → Solves t s q → length q < n → ⊥
   unfolding passes
   passes-none zero st e q a lt = omega arith
-  passes-none (suc n) {s} st e q a lt = complete n q st (or-none (passes t n s) e .1) (solves-ends t a) (omega arith)
+  passes-none (suc n) {s} st e q a lt = complete n q st (sym (dfs-start t n s) ∙ or-none (passes t n s) e .1) (solves-ends t a) (omega arith)
 
   -- the pass that found a list, the first that did
   record Pass (n : ℕ) (s p : List ℕ) : Type 0 where
     at : ℕ
     under : at < n
-    hit : dfs t at start s ≡ found p
+    hit : seek t at [] s ≡ found p
     before : passes t at s ≡ none
 
   passed : (n : ℕ) {s p : List ℕ} → passes t n s ≡ found p → Pass n s p
@@ -64,7 +65,7 @@ module _ (t : Task) (State : List ℕ → Type 0) (kept : Kept t State) (low : A
   passed (suc n) {s} {p} e =
       or-found (passes t n s) e
       (λ h. let r = passed n h in record { at = r .at; under = omega (arith, r .under); hit = r .hit; before = r .before })
-      (λ h g. record { at = n; under = omega arith; hit = g; before = h })
+      (λ h g. record { at = n; under = omega arith; hit = sym (dfs-start t n s) ∙ g; before = h })
 
   pub best : (limit : ℕ) (s : List ℕ) → State s → Best t limit s (ida t limit s)
   best limit s st = go (ida t limit s) refl

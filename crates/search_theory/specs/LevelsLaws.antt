@@ -1,5 +1,5 @@
 -- Breadth-first levels give the least counts, and such numbers are admissible where each candidate has its inverse among the candidates.
-use Prim.Native.Nat.{ℕ, zero, suc, _+_, _≤_, _<_}
+use Prim.Native.Nat.{ℕ, suc, _+_, _≤_, _<_}
 use mathlib.Core.Path.{_≡_, refl, sym, ap, subst, _∙_}
 use mathlib.Core.Logic.{⊎-elim}
 use mathlib.Core.List.{List, [], _∷_, List·Memᴰ}
@@ -7,19 +7,21 @@ use native.Mathlib.Omega.{arith}
 use native.Mathlib.Nat.{eq-or-lt-of-le}
 use lib.ListN.{length}
 use Rattle.ground.specs.Sides.{less-cases, order-cases}
-use Rattle.search_theory.specs.Search.{Last, start, after, Task, run, Admissible}
-use Rattle.search_theory.specs.SearchLaws.{Follows, solves-ends}
+use Rattle.search_theory.specs.Search.{Task, run, Admissible}
+use Rattle.search_theory.specs.Seek.{Follows, solves-ends}
 use Rattle.search_theory.specs.Demand.{Kept}
-use Rattle.search_theory.specs.Levels.{Present, Step, Reach, Least, Holds, Exact, Growing}
+use Rattle.search_theory.specs.Levels.{Present, Step, Reach, Least, Exact, Growing}
 
 module _ (moved : ℕ → List ℕ → List ℕ) (candidates : List ℕ) (Start : List ℕ → Type 0) where
   -- a level begins: what is exact to d is on its way to d + 1
-  pub begin : {d : ℕ} {key : ℕ → List ℕ} {number : ℕ → ℕ} {n : ℕ} → Exact moved candidates Start d key number n → Growing moved candidates Start d key number n
+  pub begin : {d : ℕ} {key : ℕ → List ℕ} {number : ℕ → ℕ} {n : ℕ} → Exact moved candidates Start d key number n
+      → Growing moved candidates Start d key number n
   begin e = record { shallow = λ i h. omega (arith, e .shallow i h); right = e .right; whole = e .whole }
 
   module _ {d : ℕ} {key : ℕ → List ℕ} {number : ℕ → ℕ} {n : ℕ} (g : Growing moved candidates Start d key number n) where
     -- a state that is missing, one candidate from a state with number d, has the least count d + 1
-    pub fresh : {i c : ℕ} → i < n → number i ≡ d → List·Memᴰ c candidates → (Present key n (moved c (key i)) → ⊥) → Least moved candidates Start (suc d) (moved c (key i))
+    pub fresh : {i c : ℕ} → i < n → number i ≡ d → List·Memᴰ c candidates → (Present key n (moved c (key i)) → ⊥)
+        → Least moved candidates Start (suc d) (moved c (key i))
     fresh {i} {c} h e m absent =
         record {
           reached = record { state = key i; move = c; from = subst (λ j. Reach moved candidates Start j (key i)) e (g .right i h .reached); candidate = m; leads = refl };
@@ -27,7 +29,8 @@ module _ (moved : ℕ → List ℕ → List ℕ) (candidates : List ℕ) (Start 
         }
 
     -- a level ends: each candidate of each state with number d is there
-    pub done : ((i c : ℕ) → i < n → number i ≡ d → List·Memᴰ c candidates → Present key n (moved c (key i))) → Exact moved candidates Start (suc d) key number n
+    pub done : ((i c : ℕ) → i < n → number i ≡ d → List·Memᴰ c candidates → Present key n (moved c (key i)))
+        → Exact moved candidates Start (suc d) key number n
     done closed =
         record {
           shallow = g .shallow;
@@ -62,15 +65,16 @@ pub record Counted (t : Task) (Start : List ℕ → Type 0) (depth : ℕ) : Type
 module _ (t : Task) (State : List ℕ → Type 0) (kept : Kept t State) where
   -- the inverses lead back from a goal
   back : (Start : List ℕ → Type 0) → ((c : ℕ) → List·Memᴰ c (t .candidates) → Undone t State c)
-      → (l : Last) (q s : List ℕ) → State s → Follows t l q → Start (run t q s) → Reach (t .moved) (t .candidates) Start (length q) s
+      → (l q s : List ℕ) → State s → Follows t l q → Start (run t q s) → Reach (t .moved) (t .candidates) Start (length q) s
   unfolding run
   back Start inverses l [] s st f r = r
   back Start inverses l (c ∷ q) s st f r =
       let b = inverses c (f .0) in
-      record { state = t .moved c s; move = b .inverse; from = back Start inverses (after c) q (t .moved c s) (kept c (f .0) s st) (f .2) r; candidate = b .candidate; leads = sym (b .undoes s st) }
+      record { state = t .moved c s; move = b .inverse; from = back Start inverses (c ∷ []) q (t .moved c s) (kept c (f .0) s st) (f .2) r; candidate = b .candidate; leads = sym (b .undoes s st) }
 
-  pub counted : (Start : List ℕ → Type 0) (depth : ℕ) → Counted t Start depth → ((c : ℕ) → List·Memᴰ c (t .candidates) → Undone t State c) → Admissible t State
+  pub counted : (Start : List ℕ → Type 0) (depth : ℕ) → Counted t Start depth → ((c : ℕ) → List·Memᴰ c (t .candidates) → Undone t State c)
+      → Admissible t State
   counted Start depth n inverses s st q a =
       let e = solves-ends t a in
       less-cases depth (length q) (λ h. omega (arith, n .top s))
-      (λ h. n .low s (length q) h (back Start inverses start q s st (e .follows) (n .goal _ (e .goal))))
+      (λ h. n .low s (length q) h (back Start inverses [] q s st (e .follows) (n .goal _ (e .goal))))

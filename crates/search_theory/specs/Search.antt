@@ -1,9 +1,9 @@
 -- The search over any moves, numbers, neighbour rule and candidates, and what is wanted of its answer.
 use Prim.Native.Nat.{ℕ, zero, suc, _≤_, _<_}
 use mathlib.Core.Path.{_≡_}
-use mathlib.Core.Bool.{Bool, true, false}
+use mathlib.Core.Bool.{Bool, false}
 use mathlib.Core.Logic.{_⊎_}
-use mathlib.Core.List.{List, [], _∷_, List·Memᴰ}
+use mathlib.Core.List.{List, [], _∷_, _++_, List·Memᴰ}
 use lib.Dec.{eqb, ltb}
 use lib.ListN.{length, getD}
 use Rattle.ground.specs.Choice.{pick, position}
@@ -18,20 +18,10 @@ unfoldable pub or : Reply → Reply → Reply
 or none b = b
 or (found p) b = found p
 
--- an answer with a move in front of its list
-unfoldable pub led : ℕ → Reply → Reply
-led c none = none
-led c (found p) = found (c ∷ p)
-
 -- the first list that f answers along its arguments
 unfoldable pub first : (ℕ → Reply) → List ℕ → Reply
 first f [] = none
 first f (c ∷ cs) = or (f c) (first f cs)
-
--- the move before, if there is one
-pub data Last : Type 0 where
-  start : Last
-  after : ℕ → Last
 
 -- what a search is over: the state after a move, the number of a state, which moves may not be neighbours, and the candidates
 pub record Task : Type 0 where
@@ -40,24 +30,26 @@ pub record Task : Type 0 where
   pub barred : ℕ → ℕ → Bool
   pub candidates : List ℕ
 
-module _ (t : Task) where
-  -- a move that may not follow the one before
-  abbrev pub bars : Last → ℕ → Bool
-  bars start c = false
-  bars (after a) c = t .barred a c
+-- whether a move may not follow the last of those made so far
+unfoldable pub bars : (ℕ → ℕ → Bool) → List ℕ → ℕ → Bool
+bars barred [] c = false
+bars barred (a ∷ []) c = barred a c
+bars barred (a ∷ b ∷ path) c = bars barred (b ∷ path) c
 
-  -- the source's `dfs` with so many moves left: a goal has number 0, tested before the bound; then each candidate that may follow
-  unfoldable pub dfs : ℕ → Last → List ℕ → Reply
-  dfs zero l s = pick (eqb (t .number s) 0) (found []) none
-  dfs (suc k) l s =
-      pick (eqb (t .number s) 0) (found [])
-      (pick (ltb (suc k) (t .number s)) none
-      (first (λ c. pick (bars l c) none (led c (dfs k (after c) (t .moved c s)))) (t .candidates)))
+module _ (t : Task) where
+  -- the source's `dfs` with so many moves left, after those made so far: a goal has number 0, tested before the bound, and is answered
+  -- with the moves made; else each candidate that may follow is made, and the first list found is the answer
+  unfoldable pub dfs : ℕ → List ℕ → List ℕ → Reply
+  dfs zero path s = pick (eqb (t .number s) 0) (found path) none
+  dfs (suc left) path s =
+      pick (eqb (t .number s) 0) (found path)
+      (pick (ltb (suc left) (t .number s)) none
+      (first (λ c. pick (bars (t .barred) path c) none (dfs left (path ++ (c ∷ [])) (t .moved c s))) (t .candidates)))
 
   -- the passes with 0, 1, .. moves, n of them, up to the first that finds a list
   unfoldable pub passes : ℕ → List ℕ → Reply
   passes zero s = none
-  passes (suc n) s = or (passes n s) (dfs n start s)
+  passes (suc n) s = or (passes n s) (dfs n [] s)
 
   -- `dfs` under rising limits
   abbrev pub ida : ℕ → List ℕ → Reply

@@ -89,7 +89,7 @@ below n m a b ha hb = omega (arith, mul-le-mul-right n ha, suc-row n a)
     suc-row : (n a : ℕ) → suc a * n ≡ a * n + n
     suc-row n a = native.Mathlib.Nat.suc-mul a n
 
-num-nth : (f : Face) → nthFace (numOf f) ≡ f
+pub num-nth : (f : Face) → nthFace (numOf f) ≡ f
 num-nth U = refl
 num-nth R = refl
 num-nth F = refl

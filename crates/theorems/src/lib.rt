@@ -1,0 +1,1 @@
+// Theorems that no code needs: they stand in specs/.

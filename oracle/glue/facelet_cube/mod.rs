@@ -1,0 +1,4 @@
+mod cube;
+mod moves;
+
+pub use cube::FaceletCube;
