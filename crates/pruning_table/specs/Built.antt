@@ -7,13 +7,12 @@ use mathlib.Core.List.{List, [], _∷_, _++_, map}
 use lib.Dec.{eqb, ltb}
 use lib.ListN.{length, take, drop, replicate}
 use Rattle.ground.specs.Choice.{pick}
-use Rattle.generic_cube.specs.Numbers.{stickers, answer}
+use Rattle.generic_cube.specs.Numbers.{small, beyond, stickers, answer}
 use Rattle.generic_cube.specs.Code.{moveOf, listRefusal}
 use Rattle.generic_cube.specs.declared.Answer.{Answer}
 use Rattle.geometric_moves.specs.Turn.{moved, listOff}
 use Rattle.table.specs.Order.{orderOf, byOrder}
 use Rattle.table.specs.Table.{entries}
-use Rattle.table.specs.Limits.{small}
 
 -- an entry is the bytes of a cube and one byte, its number
 pub record Entry : Type 0 where
@@ -72,9 +71,8 @@ earlyRefusal n starts moves depth =
     pick (not (small n)) 1
     (pick (not (eqb (starts % stickers n) 0)) 2
     (pick (not (eqb (listRefusal n moves) 0)) (listRefusal n moves)
-    (pick (ltb 255 (length moves)) 7
-    (pick (ltb 20 depth) 7
-    (pick (listOff n moves) 11 0)))))
+    (pick (beyond (length moves) 0 depth) 7
+    (pick (listOff n moves) 11 0))))
 
 -- the states outnumber the entries that fit
 abbrev pub outnumbered : ℕ → List ℕ → List ℕ → ℕ → List ℕ → Bool

@@ -6,13 +6,13 @@ use mathlib.Core.List.{List, _++_}
 use native.Mathlib.Omega.{arith}
 use lib.Dec.{eqb, ltb}
 use lib.ListN.{length, drop, replicate}
-use borrow.Author.Tests.{lt-ltb, le-ltb, eq-eqb, ne-eqb, eqb-true, eqb-false, ltb-false}
+use borrow.Author.Tests.{lt-ltb, le-ltb, eq-eqb, ne-eqb, eqb-true, eqb-false, not-false}
 use Rattle.ground.specs.Choice.{pick, bool-cases}
-use Rattle.generic_cube.specs.Numbers.{stickers, answer}
+use Rattle.generic_cube.specs.Numbers.{small, beyond, stickers, answer}
 use Rattle.generic_cube.specs.Code.{listRefusal}
+use Rattle.generic_cube.specs.CodeLaws.{small-bounds, in-reach}
 use Rattle.generic_cube.specs.declared.Answer.the-variants.{Value, Refused}
 use Rattle.geometric_moves.specs.Turn.{listOff}
-use Rattle.table.specs.Limits.{small, small-bounds}
 use Rattle.table.specs.Table.{entries}
 use Rattle.pruning_table.specs.Built.{Entry, bytes, tableOf, earlyRefusal, outnumbered, pruningRefusal, pruningOut, over, PruningTableResult}
 use Rattle.pruning_table.specs.Held.{held, Grew, Ready}
@@ -27,10 +27,6 @@ passed false k rest h e = (refl, e)
 listed : (r rest : ℕ) → pick (not (eqb r 0)) r rest ≡ 0 → (r ≡ 0) × (rest ≡ 0)
 listed r rest e = bool-cases (eqb r 0) (λ t. (eqb-true r 0 t, rw t at e)) (λ t. absurd (eqb-false r 0 t (rw t at e)))
 
-met : (b : Bool) → not b ≡ false → b ≡ true
-met true e = refl
-met false e = sym e
-
 -- what is known where nothing was refused
 pub early-ready : (n starts : ℕ) (moves : List ℕ) (depth : ℕ) → earlyRefusal n starts moves depth ≡ 0 → Ready n depth moves (stickers n) (stickers n)
 unfolding earlyRefusal
@@ -38,14 +34,13 @@ early-ready n starts moves depth e =
     let a = passed (not (small n)) 1 _ (λ q. omega arith) e in
     let b = passed (not (eqb (starts % stickers n) 0)) 2 _ (λ q. omega arith) (a .1) in
     let l = listed (listRefusal n moves) _ (b .1) in
-    let d = passed (ltb 255 (length moves)) 7 _ (λ q. omega arith) (l .1) in
-    let f = passed (ltb 20 depth) 7 _ (λ q. omega arith) (d .1) in
-    let size = small-bounds n (met (small n) (a .0)) in
+    let d = passed (beyond (length moves) 0 depth) 7 _ (λ q. omega arith) (l .1) in
+    let size = small-bounds n (not-false (small n) (a .0)) in
     record {
       some = size .0;
       size = size .1;
       good = l .0;
-      shallow = ltb-false 20 depth (f .0);
+      shallow = in-reach (length moves) 0 depth (d .0) .shallow;
       cube-long = refl;
       next-long = refl;
     }

@@ -6,13 +6,11 @@ use native.Mathlib.Omega.{arith}
 use lib.ListN.{length, take, replicate, length-replicate}
 use lib.Seq.{length-take-le}
 use Rattle.generic_cube.specs.Numbers.{stickers}
-
-pub cube-most : {n : ℕ} → n ≤ 7 → stickers n ≤ 294
-cube-most h = mul-le-mul (mul-le-mul-left 6 h) h
+use Rattle.generic_cube.specs.CodeLaws.{small-cube}
 
 pub cube-some : {n : ℕ} → 1 ≤ n → 6 ≤ stickers n
 cube-some h = mul-le-mul (mul-le-mul-left 6 h) h
 
 -- a cube is a part of 294 bytes
 pub cube-part : {n : ℕ} → n ≤ 7 → length {A = ℕ} (take (stickers n) (replicate 294 0)) ≡ stickers n
-cube-part {n} h = length-take-le (stickers n) (replicate 294 0) (omega (arith, length-replicate {A = ℕ} 294 0, cube-most h))
+cube-part {n} h = length-take-le (stickers n) (replicate 294 0) (omega (arith, length-replicate {A = ℕ} 294 0, small-cube n h))

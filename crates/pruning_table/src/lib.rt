@@ -262,10 +262,7 @@ fn fill(table: &mut [u8], n: usize, starts: &[u8], moves: &[u16], depth: usize) 
 fn early_refusal(n: usize, starts: usize, moves: &[u16], depth: usize) -> u8
     ensures { λ r. ⌜ r ≡ earlyRefusal n starts (now (moves .entry)) depth ⌝ }
 {
-    if n < 1 {
-        return 1;
-    }
-    if 7 < n {
+    if !generic_cube::is_small(n) {
         return 1;
     }
     if starts % (6 * n * n) != 0 {
@@ -275,10 +272,7 @@ fn early_refusal(n: usize, starts: usize, moves: &[u16], depth: usize) -> u8
     if number != 0 {
         return number;
     }
-    if 255 < moves.len() {
-        return 7;
-    }
-    if 20 < depth {
+    if generic_cube::is_beyond(moves.len(), 0, depth) {
         return 7;
     }
     if geometric_moves::list_off(n, moves) {

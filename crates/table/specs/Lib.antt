@@ -3,4 +3,3 @@ pub mod OrderLaws
 pub mod Table
 pub mod TableLaws
 pub mod Asked
-pub mod Limits

@@ -12,7 +12,7 @@ use Rattle.geometric_moves.specs.MovedLaws.{length-moved}
 use Rattle.table.specs.TableLaws.{entries-most}
 use Rattle.pruning_table.specs.Built.{entry}
 use Rattle.pruning_table.specs.Held.{Added}
-use Rattle.pruning_table.specs.SizeLaws.{cube-most}
+use Rattle.generic_cube.specs.CodeLaws.{small-cube}
 use Rattle.pruning_table.specs.ComeLaws.{added-key, step-at, step-full}
 use Rattle.pruning_table.specs.WalkLaws.{walk-there, walk-before, walk-after}
 use borrow.Author.Needs.{needs}
@@ -74,7 +74,7 @@ add-requires : tie.Need-add-requires
 add-requires c κs =
     let a = c .before .before .before .before .before .before .before .before .before .before .before .before .before .before .before in
     record {
-      short = omega (arith, cube-most (a .pre .0 .size));
+      short = omega (arith, small-cube _ (a .pre .0 .size));
       ordered = a .pre .1 .ordered;
       long = ap length (c .before .before .before .before .compute-permutation .ensures) ∙ length-moved _ _ _;
     }

@@ -12,7 +12,8 @@ use lib.ListN.{length}
 use Rattle.generic_cube.specs.Numbers.{stickers}
 use Rattle.pruning_table.specs.Built.{built, tableOf, startsOf}
 use Rattle.pruning_table.specs.Held.{Grew}
-use Rattle.pruning_table.specs.SizeLaws.{cube-most, cube-some}
+use Rattle.generic_cube.specs.CodeLaws.{small-cube}
+use Rattle.pruning_table.specs.SizeLaws.{cube-some}
 use Rattle.pruning_table.specs.StageLaws.{built-on, built-over}
 use Rattle.pruning_table.specs.ComeLaws.{grown-to, grown-over}
 use borrow.Author.Needs.{needs}
@@ -41,12 +42,12 @@ mul-seed : tie.Need-mul-seed Inv-loop μ-loop
 mul-seed c = omega (arith, c .before .before .before .before .before .before .pre .size)
 
 mul-seed-2 : tie.Need-mul-seed-2 Inv-loop μ-loop
-mul-seed-2 c = omega (arith, cube-most (c .before .before .before .before .before .before .pre .size))
+mul-seed-2 c = omega (arith, small-cube _ (c .before .before .before .before .before .before .pre .size))
 
 seed-requires : tie.Need-seed-requires Inv-loop μ-loop
 seed-requires c κs =
     let a = c .before .before .before .before .before .before .pre in
-    (omega (arith, cube-some (a .some)), omega (arith, cube-most (a .size)))
+    (omega (arith, cube-some (a .some)), omega (arith, small-cube _ (a .size)))
 
 enum-known-first : tie.Need-enum-known-first Inv-loop μ-loop
 enum-known-first c = search needs

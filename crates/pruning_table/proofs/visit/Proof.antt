@@ -9,7 +9,7 @@ use Rattle.table.specs.Asked.{Held}
 use Rattle.table.specs.TableLaws.{length-key}
 use Rattle.pruning_table.specs.Built.{addAll, nexts}
 use Rattle.pruning_table.specs.Held.{held}
-use Rattle.pruning_table.specs.SizeLaws.{cube-most}
+use Rattle.generic_cube.specs.CodeLaws.{small-cube}
 use Rattle.pruning_table.specs.ComeLaws.{step-at, step-table}
 use Rattle.pruning_table.specs.WalkLaws.{walk-none, walk-table, visit-pass, visit-spread}
 use borrow.Author.Needs.{needs}
@@ -20,7 +20,7 @@ use Rattle.pruning_table.proofs.visit.Tie as tie
 there : (c : tie.Start) → Held (stickers (c .args .n)) (c .args .table .now) (c .args .at)
 there c =
     let st = c .pre .1 in
-    record { short = omega (arith, cube-most (c .pre .0 .size)); there = omega (arith, st .here, st .ordered .room) }
+    record { short = omega (arith, small-cube _ (c .pre .0 .size)); there = omega (arith, st .here, st .ordered .room) }
 
 mul-m : tie.Need-mul-m
 mul-m c = search needs
