@@ -2,3 +2,4 @@ pub mod Choice
 pub mod Fill
 pub mod Loops
 pub mod Sides
+pub mod Members

@@ -13,6 +13,12 @@ orderOf [] (b ∷ y) = Less
 orderOf (a ∷ x) [] = More
 orderOf (a ∷ x) (b ∷ y) = pick (ltb a b) Less (pick (ltb b a) More (orderOf x y))
 
+-- a choice by an order
+abbrev pub byOrder {ℓ} : {A : Type ℓ} → Order → A → A → A → A
+byOrder Less a b c = a
+byOrder Same a b c = b
+byOrder More a b c = c
+
 abbrev pub isSame : Order → Bool
 isSame Less = false
 isSame Same = true

@@ -15,6 +15,12 @@ use Rattle.table.specs.declared.Order.{Order}
 use Rattle.table.specs.declared.Order.the-variants.{Less, Same, More}
 use Rattle.table.specs.Order.{orderOf, isSame, isLess}
 
+-- an order is one of three
+pub order-split {ℓ} : {A : Type ℓ} (o : Order) → (o ≡ Less → A) → (o ≡ Same → A) → (o ≡ More → A) → A
+order-split Less f g h = f refl
+order-split Same f g h = g refl
+order-split More f g h = h refl
+
 -- two keys with a byte in front of each
 data View (a b : ℕ) (x y : List ℕ) : Type 0 where
   below : a < b → orderOf (a ∷ x) (b ∷ y) ≡ Less → View a b x y
@@ -87,6 +93,14 @@ less-trans (a ∷ x) (b ∷ y) (c ∷ z) p q = go (less-trans x y z) (view a b x
 
 pub less-irrefl : (x : List ℕ) → orderOf x x ≡ Less → ⊥
 less-irrefl x e = less-same (sym e ∙ eq-same x)
+
+pub less-flip : (x y : List ℕ) → orderOf x y ≡ Less → orderOf y x ≡ More
+less-flip x y h = go (orderOf y x) refl
+  where
+    go : (o : Order) → orderOf y x ≡ o → o ≡ More
+    go Less e = absurd (less-irrefl x (less-trans x y x h e))
+    go Same e = absurd (less-irrefl x (subst (λ (z : List ℕ). orderOf x z ≡ Less) (same-eq y x e) h))
+    go More e = refl
 
 pub less-other : (x y : List ℕ) → orderOf x y ≡ Less → x ≡ y → ⊥
 less-other x y e h = less-irrefl x (subst (λ (z : List ℕ). orderOf x z ≡ Less) (sym h) e)

@@ -1,0 +1,14 @@
+pub mod Built
+pub mod AddLaws
+pub mod Held
+pub mod HeldLaws
+pub mod ShiftLaws
+pub mod ComeLaws
+pub mod WalkLaws
+pub mod SizeLaws
+pub mod StageLaws
+pub mod ResultLaws
+pub mod Exact
+pub mod CountLaws
+pub mod RisingLaws
+pub mod ExactLaws

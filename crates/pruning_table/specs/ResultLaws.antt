@@ -1,0 +1,91 @@
+-- What the refusals leave to build on, and the result in each case.
+use Prim.Native.Nat.{ℕ, _+_, _*_, _%_, _≤_, _<_}
+use mathlib.Core.Path.{_≡_, refl, sym, ap, ap₂, subst, _∙_}
+use mathlib.Core.Bool.{Bool, true, false, not}
+use mathlib.Core.List.{List, _++_}
+use native.Mathlib.Omega.{arith}
+use lib.Dec.{eqb, ltb}
+use lib.ListN.{length, drop, replicate}
+use borrow.Author.Tests.{lt-ltb, le-ltb, eq-eqb, ne-eqb, eqb-true, eqb-false, not-false}
+use Rattle.ground.specs.Choice.{pick, bool-cases}
+use Rattle.generic_cube.specs.Numbers.{small, beyond, stickers, answer}
+use Rattle.generic_cube.specs.Code.{listRefusal}
+use Rattle.generic_cube.specs.CodeLaws.{small-bounds, in-reach}
+use Rattle.generic_cube.specs.declared.Answer.the-variants.{Value, Refused}
+use Rattle.geometric_moves.specs.Turn.{listOff}
+use Rattle.table.specs.Table.{entries}
+use Rattle.pruning_table.specs.Built.{Entry, bytes, tableOf, earlyRefusal, outnumbered, pruningRefusal, pruningOut, over, PruningTableResult}
+use Rattle.pruning_table.specs.Held.{held, Grew, Ready}
+use Rattle.pruning_table.specs.HeldLaws.{length-held, bytes-held, held-long, length-bytes, room-bytes}
+use Rattle.pruning_table.specs.StageLaws.{grew-room}
+
+-- a test that leads to no refusal fails, and what follows it refuses nothing
+passed : (b : Bool) (k rest : ℕ) → (k ≡ 0 → ⊥) → pick b k rest ≡ 0 → (b ≡ false) × (rest ≡ 0)
+passed true k rest h e = absurd (h e)
+passed false k rest h e = (refl, e)
+
+listed : (r rest : ℕ) → pick (not (eqb r 0)) r rest ≡ 0 → (r ≡ 0) × (rest ≡ 0)
+listed r rest e = bool-cases (eqb r 0) (λ t. (eqb-true r 0 t, rw t at e)) (λ t. absurd (eqb-false r 0 t (rw t at e)))
+
+-- what is known where nothing was refused
+pub early-ready : (n starts : ℕ) (moves : List ℕ) (depth : ℕ) → earlyRefusal n starts moves depth ≡ 0 → Ready n depth moves (stickers n) (stickers n)
+unfolding earlyRefusal
+early-ready n starts moves depth e =
+    let a = passed (not (small n)) 1 _ (λ q. omega arith) e in
+    let b = passed (not (eqb (starts % stickers n) 0)) 2 _ (λ q. omega arith) (a .1) in
+    let l = listed (listRefusal n moves) _ (b .1) in
+    let d = passed (beyond (length moves) 0 depth) 7 _ (λ q. omega arith) (l .1) in
+    let size = small-bounds n (not-false (small n) (a .0)) in
+    record {
+      some = size .0;
+      size = size .1;
+      good = l .0;
+      shallow = in-reach (length moves) 0 depth (d .0) .shallow;
+      cube-long = refl;
+      next-long = refl;
+    }
+
+-- a slice that grew from no entry is the bytes of the entries over what it was
+pub grew-bytes : {m count : ℕ} {table : List Entry} {t t′ : List ℕ} → Grew m table t 0 t′ count → t′ ≡ over (bytes table) t
+grew-bytes {m} {count} {table} {t} {t′} g =
+    let fit = room-bytes m count t′ (g .ordered .room) in
+    let long : length (bytes table) ≡ count * (m + 1) =
+    ap (λ (l : List Entry). length (bytes l)) (sym (g .holds)) ∙ length-bytes m (held m count t′) (held-long m count t′ fit)
+    ∙ ap (λ (k : ℕ). k * (m + 1)) (length-held m count t′) in
+    sym (bytes-held m count t′ fit) ∙ ap₂ (λ (l : List Entry) (r : List ℕ). bytes l ++ r) (g .holds) (g .past ∙ ap (λ (k : ℕ). drop k t) (sym long))
+
+pub grew-count : {m count : ℕ} {table : List Entry} {t t′ : List ℕ} → Grew m table t 0 t′ count → length table ≡ count
+grew-count {m} {count} {t′ = t′} g = ap length (sym (g .holds)) ∙ length-held m count t′
+
+module _ (n : ℕ) (starts moves : List ℕ) (depth : ℕ) (t : List ℕ) where
+  -- the result of an early refusal
+  pub result-refused : {k : ℕ} → k ≡ earlyRefusal n (length starts) moves depth → (k ≡ 0 → ⊥) → PruningTableResult n starts moves depth t t (Refused k)
+  unfolding pruningRefusal pruningOut
+  result-refused {k} e h =
+      record {
+        answered = simp (← e, ne-eqb k 0 h);
+        written = simp (← e, ne-eqb k 0 h);
+      }
+
+  module _ (e : earlyRefusal n (length starts) moves depth ≡ 0) where
+    -- of states that have no room
+    pub result-over : {t′ : List ℕ} → entries (stickers n) t < length (tableOf n starts moves depth) → t′ ≡ replicate (length t) 0
+        → PruningTableResult n starts moves depth t t′ (Refused 6)
+    unfolding pruningRefusal pruningOut
+    result-over h f =
+        record {
+          answered = simp (eq-eqb _ _ e, lt-ltb _ _ h);
+          written = f ∙ simp (eq-eqb _ _ e, lt-ltb _ _ h);
+        }
+
+    -- of a table
+    pub result-built : {t′ : List ℕ} {count : ℕ} → Grew (stickers n) (tableOf n starts moves depth) t 0 t′ count
+        → PruningTableResult n starts moves depth t t′ (Value count)
+    unfolding pruningRefusal pruningOut
+    result-built {t′} {count} g =
+        let c = grew-count g in
+        let few : length (tableOf n starts moves depth) ≤ entries (stickers n) t = omega (arith, grew-room g) in
+        record {
+          answered = ap Value (sym c) ∙ simp (eq-eqb _ _ e, le-ltb _ _ few);
+          written = grew-bytes g ∙ simp (eq-eqb _ _ e, le-ltb _ _ few);
+        }
