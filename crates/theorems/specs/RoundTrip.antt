@@ -1,7 +1,7 @@
 -- Reading what the writer wrote gives the same list.
 use Prim.Native.Nat.{ℕ, suc, _+_, _-_, _*_, _/_, _%_, _≤_, _<_}
 use mathlib.Core.Path.{_≡_, refl, sym, ap, _∙_, subst}
-use mathlib.Core.Bool.{Bool, true, false, not, true≢false}
+use mathlib.Core.Bool.{true, false, not, true≢false}
 use mathlib.Core.List.{List, [], _∷_, _++_, append-assoc, append-nil}
 use native.Mathlib.Omega.{arith}
 use lib.ListN.{length, getD, take, drop, length-append}
@@ -13,7 +13,6 @@ use Rattle.generic_cube.specs.Code.{moveOf, isWide, badCode, readCode, outside,
 use Rattle.generic_cube.specs.CodeLaws.{sized-bounds, code-bounds, code-width, code-in, width-in, inside}
 use Rattle.generic_cube.specs.AllMoves.{each, upFrom}
 use Rattle.generic_cube.specs.AllMovesLaws.{all-at, all-below}
-use Rattle.generic_cube.specs.declared.Code.the-variants.{Taken}
 use Rattle.generic_cube.specs.declared.Answer.the-variants.{Value, Refused}
 use Rattle.generic_cube.specs.Numbers.{sized, answer}
 use Rattle.scramble_parser.specs.declared.Parsed.{Parsed}
@@ -26,7 +25,7 @@ use Rattle.scramble_parser.specs.Parse.{Reading, codes, ahead, reading, parseAn
 use Rattle.scramble_parser.specs.ParseLaws.{words-space, words-byte, words-end}
 use Rattle.scramble_parser.specs.Write.{kindByte, markText, widthText, tokenText, textOf, restText, listText, writeRefusal, writeOut, WriteResult}
 use Rattle.scramble_parser.specs.Room.{fillRefusal, clear}
-use Rattle.scramble_parser.specs.WriteLaws.{mark-none, mark-half, mark-back, width-none, width-one, width-two, width-three}
+use Rattle.scramble_parser.specs.WriteLaws.{width-none, width-one, width-two, width-three}
 
 -- ---- a byte and what it reads as
 

@@ -1,19 +1,18 @@
 -- The accepted tokens are no others than the writer's texts, and those of a wide move of width 2 with a `2` before them.
 use Prim.Native.Nat.{ℕ, suc, _+_, _-_, _*_, _/_, _%_, _≤_, _<_}
 use mathlib.Core.Path.{_≡_, refl, sym, ap, subst, _∙_}
-use mathlib.Core.Bool.{Bool, true, false, true≢false}
+use mathlib.Core.Bool.{true, false, true≢false}
 use mathlib.Core.Logic.{_⊎_, inl, inr, ⊎-elim}
 use mathlib.Core.List.{List, [], _∷_, _++_}
 use native.Mathlib.Omega.{arith}
 use native.Mathlib.Numerals.{add-one, add-two}
 use lib.ListN.{length, getD, take, drop, length-drop, take-append-drop}
 use lib.Seq.{drop-cons, getD-drop}
-use lib.Dec.{ltb, leb, eqb}
+use lib.Dec.{ltb, eqb}
 use borrow.Author.Tests.{eq-eqb, ne-eqb, lt-ltb, le-ltb, eqb-true, eqb-false, ltb-true, ltb-false}
-use Rattle.ground.specs.Choice.{pick, bool-cases, position, position-found, position-most}
+use Rattle.ground.specs.Choice.{bool-cases, position, position-found, position-most}
 use Rattle.generic_cube.specs.Code.{moveOf, isWide, badCode, outside, badWidthIn}
 use Rattle.generic_cube.specs.CodeLaws.{code-bounds, code-width}
-use Rattle.scramble_parser.specs.declared.Token.{Token}
 use Rattle.scramble_parser.specs.declared.Token.the-variants.{Is, Not}
 use Rattle.scramble_parser.specs.Token.{kindLetters, letterOf, isFace, plainKind, markOf, digitOf, isDigit, digitsOf, numberOf, plainOf, wideOf, startsWide, readToken}
 use Rattle.scramble_parser.specs.Write.{kindByte, markText, widthText, tokenText, textOf}
