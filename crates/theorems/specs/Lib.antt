@@ -1,3 +1,4 @@
+pub mod Kept
 pub mod Simplified
 pub mod RoundTrip
 pub mod Spelled
