@@ -1,20 +1,19 @@
 -- Laws of lists that are stored in order by loops, and the lengths of all moves.
-use Prim.Native.Nat.{ℕ, zero, suc, _+_, _-_, _*_, _/_, _<_, _≤_}
+use Prim.Native.Nat.{ℕ, zero, suc, _+_, _*_, _/_, _<_, _≤_}
 use mathlib.Core.Path.{_≡_, refl, sym, ap, subst, _∙_}
 use mathlib.Core.Bool.{Bool, true, false, not, true≢false}
 use mathlib.Core.List.{List, [], _∷_, _++_, append-assoc, append-nil}
 use native.Mathlib.Omega.{arith}
 use native.Mathlib.Numerals.{add-one}
-use native.Mathlib.Nat.{mul-le-mul-right, suc-mul, zero-add, add-zero, add-suc}
-use lib.Dec.{eqb, ltb}
-use lib.ListN.{length, getD, take, drop, set, length-append, length-set, take-append-drop}
+use native.Mathlib.Nat.{mul-le-mul-right, suc-mul, zero-add, add-zero}
+use lib.Dec.{ltb}
+use lib.ListN.{length, getD, take, drop, set, length-append, take-append-drop}
 use lib.Seq.{sets, sets-eq, length-sets, take-suc, take-all, length-take-le}
 use borrow.Author.Tests.{ltb-false, ltb-true, not-false}
-use Rattle.ground.specs.Choice.{pick, bool-cases, any, any-none}
+use Rattle.ground.specs.Choice.{bool-cases, any, any-none}
 use Rattle.generic_cube.specs.Numbers.{sized}
 use Rattle.generic_cube.specs.CodeLaws.{sized-bounds}
 use Rattle.generic_cube.specs.AllMoves.{each, upFrom, movesOf, faceKinds, wideKinds, allMoves, allRefusal, allOut, AllMovesResult}
-use Rattle.generic_cube.specs.declared.Answer.{Answer}
 use Rattle.generic_cube.specs.declared.Answer.the-variants.{Value}
 
 -- `new` is `out` with the list vs stored from j on, and r is the place behind it

@@ -1,8 +1,8 @@
 -- Move codes, and the refusals of a code and of a list of them.
 use Prim.Native.Nat.{ℕ, _+_, _*_, _/_, _%_}
 use mathlib.Core.Bool.{Bool, true, false}
-use mathlib.Core.List.{List, [], _∷_}
-use lib.Dec.{ltb, leb, eqb}
+use mathlib.Core.List.{List}
+use lib.Dec.{ltb, eqb}
 use Rattle.ground.specs.Choice.{pick, any}
 use Rattle.generic_cube.specs.declared.Move.{Move}
 use Rattle.generic_cube.specs.declared.Code.{Code}
@@ -44,10 +44,10 @@ refusalIn low high cs =
     pick (any (λ c. badCode (moveOf c)) cs) 3 (pick (any (λ c. badWidthIn low high (moveOf c)) cs) 5 0)
 
 -- a wide width is 1 to n for applying, simplifying, inverting and searching
-abbrev pub badWidth : ℕ → Move → Bool
-badWidth n = badWidthIn 1 n
+unfoldable pub badWidth : ℕ → Move → Bool
+badWidth n m = badWidthIn 1 n m
 
-abbrev pub listRefusal : ℕ → List ℕ → ℕ
+unfoldable pub listRefusal : ℕ → List ℕ → ℕ
 listRefusal n cs = refusalIn 1 n cs
 
 -- the search's rule: no two neighbours have the same kind

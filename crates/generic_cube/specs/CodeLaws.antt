@@ -1,21 +1,20 @@
 -- Laws of codes: what a list that is not refused holds, and the walk that finds its refusal.
-use Prim.Native.Nat.{ℕ, zero, suc, _+_, _*_, _/_, _%_, _<_, _≤_}
-use mathlib.Core.Path.{_≡_, refl, ap, sym, subst, _∙_}
+use Prim.Native.Nat.{ℕ, _+_, _*_, _/_, _%_, _<_, _≤_}
+use mathlib.Core.Path.{_≡_, refl, sym, subst, _∙_}
 use mathlib.Core.Bool.{Bool, true, false, true≢false}
 use mathlib.Core.List.{List, [], _∷_}
 use native.Mathlib.Omega.{arith}
 use native.Mathlib.Numerals.{add-one}
 use native.Mathlib.Nat.{mul-le-mul}
-use lib.Dec.{ltb, leb, eqb}
+use lib.Dec.{ltb, eqb}
 use lib.ListN.{length, getD, drop, drop-of-length-le}
 use lib.Seq.{drop-cons}
-use borrow.Author.Tests.{ne-eqb, eqb-false, eqb-true, ltb-false, ltb-true, le-ltb, lt-ltb, leb-true}
+use borrow.Author.Tests.{ne-eqb, eqb-false, eqb-true, ltb-false, leb-true}
 use Rattle.ground.specs.Choice.{pick, bool-cases, any, any-none}
 use Rattle.generic_cube.specs.declared.Move.{Move}
-use Rattle.generic_cube.specs.declared.Code.{Code}
 use Rattle.generic_cube.specs.declared.Code.the-variants.{Taken, Refused}
 use Rattle.generic_cube.specs.Numbers.{sized, small, beyond, stickers}
-use Rattle.generic_cube.specs.Code.{codeOf, moveOf, isWide, badCode, readCode, outside, badWidthIn, badWidth, refusalIn, listRefusal}
+use Rattle.generic_cube.specs.Code.{moveOf, isWide, badCode, readCode, outside, badWidthIn, badWidth, refusalIn, listRefusal}
 
 -- a size that is in range
 pub sized-bounds : (n : ℕ) → sized n ≡ true → (1 ≤ n) × (n ≤ 104)
@@ -89,6 +88,7 @@ code-width c e w =
     (λ v. absurd (true≢false (rw (ne-eqb (c % 4) 0 (omega arith), ne-eqb (c / 4 % 16) 15 (omega arith), w, v) at e)))
 
 pub fair : (n c : ℕ) → 1 ≤ n → badCode (moveOf c) ≡ false → badWidth n (moveOf c) ≡ false → Fair n (moveOf c)
+unfolding badWidth
 fair n c h e d =
     let k = code-bounds c e in
     record { some = k .0; most = omega arith; kind = k .1; width = small }
@@ -136,9 +136,11 @@ module _ (low high : ℕ) (cs : List ℕ) (e : refusalIn low high cs ≡ 0) wher
 -- each of its moves is fair, and is read as itself
 module _ (n : ℕ) (cs : List ℕ) (e : listRefusal n cs ≡ 0) where
   pub list-code : (i : ℕ) → i < length cs → badCode (moveOf (getD cs i 0)) ≡ false
+  unfolding listRefusal
   list-code i h = code-in 1 n cs e i h
 
   pub list-fair : (i : ℕ) → 1 ≤ n → i < length cs → Fair n (moveOf (getD cs i 0))
+  unfolding listRefusal badWidth
   list-fair i k h = fair n (getD cs i 0) k (list-code i h) (width-in 1 n cs e i h)
 
   -- so a walker that takes its code apart has that move, and meets no refusal

@@ -1,21 +1,18 @@
 -- What a list without a refusal is, and the results of simplifying and inverting it.
 use Prim.Native.Nat.{ℕ, zero, suc, _+_, _-_, _%_, _<_, _≤_}
 use mathlib.Core.Path.{_≡_, refl, sym, ap, _∙_}
-use mathlib.Core.Bool.{Bool, true, false}
 use mathlib.Core.List.{List, [], _∷_, _++_, append-assoc}
 use native.Mathlib.Omega.{arith}
 use native.Mathlib.Nat.{zero-add}
 use lib.ListN.{length, getD, take, drop, replicate, length-append, length-take, length-drop, List·getD-append}
 use lib.Seq.{sets, sets-eq, getD-at, length-take-le, drop-drop}
-use lib.Dec.{eqb, ltb}
-use borrow.Author.Tests.{ne-eqb, eqb-true, eqb-false, ltb-true, ltb-false}
-use Rattle.ground.specs.Choice.{pick, bool-cases}
-use Rattle.generic_cube.specs.Numbers.{sized, answer}
+use lib.Dec.{ltb}
+use borrow.Author.Tests.{ne-eqb, ltb-true, ltb-false}
+use Rattle.ground.specs.Choice.{bool-cases}
 use Rattle.generic_cube.specs.Code.{listRefusal}
 use Rattle.generic_cube.specs.CodeLaws.{sized-bounds, list-fair}
-use Rattle.generic_cube.specs.declared.Answer.{Answer}
 use Rattle.generic_cube.specs.declared.Answer.the-variants.{Value, Refused}
-use Rattle.scramble_parser.specs.Room.{Clear, clear}
+use Rattle.scramble_parser.specs.Room.{clear}
 use Rattle.scramble_parser.specs.Lists.{simplify, Turned, inverseOf, inverse, sameRefusal, simplifyOut, invertOut, SimplifyResult, InvertResult}
 use Rattle.scramble_parser.specs.SimplifyLaws.{Shrunk}
 

@@ -10,7 +10,6 @@ use lib.ListN.{length, getD, take, drop, set, length-take, length-drop, length-s
 use lib.Seq.{drop-cons, take-suc, getD-drop, sets, sets-eq}
 use lib.Dec.{ltb}
 use borrow.Author.Tests.{le-ltb, lt-ltb}
-use Rattle.ground.specs.Choice.{pick}
 use Rattle.generic_cube.specs.Numbers.{sized}
 use Rattle.scramble_parser.specs.Token.{isSpace, readToken}
 use Rattle.scramble_parser.specs.Words.{Run, words, flush, wordsFrom, Skipped, Ahead, Found}

@@ -1,26 +1,24 @@
 -- Laws of a text that is stored token by token, and of the room that it takes.
 use Prim.Native.Nat.{ℕ, _+_, _-_, _/_, _%_, _<_, _≤_}
-use mathlib.Core.Path.{_≡_, refl, sym, ap, subst, _∙_}
-use mathlib.Core.Bool.{Bool, true, false}
+use mathlib.Core.Path.{_≡_, refl, sym, ap, _∙_}
+use mathlib.Core.Bool.{true, false}
 use mathlib.Core.List.{List, [], _∷_, _++_}
 use native.Mathlib.Omega.{arith}
 use native.Mathlib.Nat.{zero-add}
-use lib.Dec.{eqb, ltb, leb}
+use lib.Dec.{leb}
 use lib.ListN.{length, getD, take, drop, length-append, length-drop}
-use lib.Seq.{sets, sets-eq, take-all}
+use lib.Seq.{sets-eq, take-all}
 use borrow.Author.Tests.{eq-eqb, ne-eqb, lt-ltb, le-ltb, lt-leb, le-leb, leb-true, leb-false}
-use Rattle.ground.specs.Choice.{pick, bool-cases}
-use Rattle.generic_cube.specs.Numbers.{answer}
+use Rattle.ground.specs.Choice.{bool-cases}
 use Rattle.generic_cube.specs.Code.{isWide, readCode, refusalIn}
 use Rattle.generic_cube.specs.CodeLaws.{taken, code-bounds}
 use Rattle.generic_cube.specs.AllMoves.{each}
-use Rattle.generic_cube.specs.AllMovesLaws.{Put, put-none, put-then, put-length, each-upto, each-most}
+use Rattle.generic_cube.specs.AllMovesLaws.{Put, put-none, put-then, each-upto, each-most}
 use Rattle.generic_cube.specs.declared.Move.{Move}
 use Rattle.generic_cube.specs.declared.Code.{Code}
 use Rattle.generic_cube.specs.declared.Code.the-variants.{Taken}
-use Rattle.generic_cube.specs.declared.Answer.{Answer}
 use Rattle.generic_cube.specs.declared.Answer.the-variants.{Value, Refused}
-use Rattle.scramble_parser.specs.Room.{fillRefusal, clear}
+use Rattle.scramble_parser.specs.Room.{clear}
 use Rattle.scramble_parser.specs.Write.{kindByte, markText, widthText, tokenText, codeText, textOf, restText, listText, writeRefusal, writeOut, WriteResult}
 
 -- ---- a suffix, and a width, by cases

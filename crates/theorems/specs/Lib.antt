@@ -1,6 +1,7 @@
 pub mod Signed
 pub mod PieceMap
 pub mod Rotations
+pub mod Kept
 pub mod Simplified
 pub mod RoundTrip
 pub mod Spelled

@@ -1,7 +1,7 @@
 -- Reading what the writer wrote gives the same list.
 use Prim.Native.Nat.{ℕ, suc, _+_, _-_, _*_, _/_, _%_, _≤_, _<_}
 use mathlib.Core.Path.{_≡_, refl, sym, ap, _∙_, subst}
-use mathlib.Core.Bool.{Bool, true, false, not, true≢false}
+use mathlib.Core.Bool.{true, false, not, true≢false}
 use mathlib.Core.List.{List, [], _∷_, _++_, append-assoc, append-nil}
 use native.Mathlib.Omega.{arith}
 use lib.ListN.{length, getD, take, drop, length-append}
@@ -13,7 +13,6 @@ use Rattle.generic_cube.specs.Code.{moveOf, isWide, badCode, readCode, outside,
 use Rattle.generic_cube.specs.CodeLaws.{sized-bounds, code-bounds, code-width, code-in, width-in, inside}
 use Rattle.generic_cube.specs.AllMoves.{each, upFrom}
 use Rattle.generic_cube.specs.AllMovesLaws.{all-at, all-below}
-use Rattle.generic_cube.specs.declared.Code.the-variants.{Taken}
 use Rattle.generic_cube.specs.declared.Answer.the-variants.{Value, Refused}
 use Rattle.generic_cube.specs.Numbers.{sized, answer}
 use Rattle.scramble_parser.specs.declared.Parsed.{Parsed}
@@ -26,7 +25,8 @@ use Rattle.scramble_parser.specs.Parse.{Reading, codes, ahead, reading, parseAn
 use Rattle.scramble_parser.specs.ParseLaws.{words-space, words-byte, words-end}
 use Rattle.scramble_parser.specs.Write.{kindByte, markText, widthText, tokenText, textOf, restText, listText, writeRefusal, writeOut, WriteResult}
 use Rattle.scramble_parser.specs.Room.{fillRefusal, clear}
-use Rattle.scramble_parser.specs.WriteLaws.{mark-none, mark-half, mark-back, width-none, width-one, width-two, width-three}
+use Rattle.theorems.specs.Kept.{Good, AllGood, taken-good}
+use Rattle.scramble_parser.specs.WriteLaws.{width-none, width-one, width-two, width-three}
 
 -- ---- a byte and what it reads as
 
@@ -174,10 +174,16 @@ pub wide-byte : (k : ℕ) → 6 ≤ k → kindByte k ≡ getD kindLetters (k - 6
 unfolding kindByte
 wide-byte k l = rw (le-ltb k 6 l)
 
+-- a code that the writer takes
+abbrev pub Writable : ℕ → ℕ → Type 0
+Writable n c = Good 2 (n - 1) c
+
 -- every writable code's text is read as that code
-pub token-back : (n c : ℕ) → n ≤ 104 → badCode (moveOf c) ≡ false → badWidthIn 2 (n - 1) (moveOf c) ≡ false → readToken n (textOf c) ≡ Is c
+pub token-back : (n c : ℕ) → n ≤ 104 → Writable n c → readToken n (textOf c) ≡ Is c
 unfolding tokenText
-token-back n c h e d =
+token-back n c h g =
+    let e = g .code in
+    let d = g .width in
     let q = code-bounds c e in
     bool-cases (isWide (c / 4 % 16))
     (λ s.
@@ -244,41 +250,27 @@ flush-reading n at (b ∷ tok) ws c cs e r =
 
 -- ---- a list that the writer takes
 
-pub WritableList : ℕ → List ℕ → Type 0
-WritableList n [] = Unit {0}
-WritableList n (c ∷ cs) = (badCode (moveOf c) ≡ false) × (badWidthIn 2 (n - 1) (moveOf c) ≡ false) × WritableList n cs
-
-writable-all : (n : ℕ) (cs : List ℕ) → ((i : ℕ) → i < length cs → badCode (moveOf (getD cs i 0)) ≡ false)
-    → ((i : ℕ) → i < length cs → badWidthIn 2 (n - 1) (moveOf (getD cs i 0)) ≡ false) → WritableList n cs
-unfolding WritableList
-writable-all n [] f g = tt
-writable-all n (c ∷ cs) f g =
-    (f 0 (omega arith), g 0 (omega arith), writable-all n cs (λ i h. f (suc i) (omega arith)) (λ i h. g (suc i) (omega arith)))
-
-writable : (n : ℕ) (cs : List ℕ) → refusalIn 2 (n - 1) cs ≡ 0 → WritableList n cs
-writable n cs e = writable-all n cs (code-in 2 (n - 1) cs e) (width-in 2 (n - 1) cs e)
-
 -- a word that stands right before a space and a token for each code
-rest-back : (n at : ℕ) (tok : List ℕ) (c : ℕ) (cs : List ℕ) → n ≤ 104 → WritableList n cs → readToken n tok ≡ Is c
+rest-back : (n at : ℕ) (tok : List ℕ) (c : ℕ) (cs : List ℕ) → n ≤ 104 → AllGood 2 (n - 1) cs → readToken n tok ≡ Is c
     → reading n (words at tok (restText cs)) ≡ codes (c ∷ cs)
-unfolding WritableList restText each reading isSpace
+unfolding AllGood restText each reading isSpace
 rest-back n at tok c [] h w t = ap (reading n) (words-end at tok) ∙ flush-reading n at tok [] c [] t refl
 rest-back n at tok c (d ∷ cs) h w t =
     ap (reading n) (words-space at tok 32 (textOf d ++ restText cs) refl)
     ∙ flush-reading n at tok (words (at + 1) [] (textOf d ++ restText cs)) c (d ∷ cs) t
-    (ap (reading n) (run-words (at + 1) [] (textOf d) (restText cs) (token-space d (w .0)))
-    ∙ rest-back n (at + 1 + length (textOf d)) (textOf d) d cs h (w .2) (token-back n d h (w .0) (w .1)))
+    (ap (reading n) (run-words (at + 1) [] (textOf d) (restText cs) (token-space d (w .0 .code)))
+    ∙ rest-back n (at + 1 + length (textOf d)) (textOf d) d cs h (w .1) (token-back n d h (w .0)))
 
-text-back : (n : ℕ) (cs : List ℕ) → n ≤ 104 → WritableList n cs → reading n (wordsFrom (listText cs) 0) ≡ codes cs
-unfolding WritableList listText reading
+text-back : (n : ℕ) (cs : List ℕ) → n ≤ 104 → AllGood 2 (n - 1) cs → reading n (wordsFrom (listText cs) 0) ≡ codes cs
+unfolding AllGood listText reading
 text-back n [] h w = ap (reading n) (words-end 0 [])
 text-back n (c ∷ cs) h w =
-    ap (reading n) (run-words 0 [] (textOf c) (restText cs) (token-space c (w .0)))
-    ∙ rest-back n (0 + length (textOf c)) (textOf c) c cs h (w .2) (token-back n c h (w .0) (w .1))
+    ap (reading n) (run-words 0 [] (textOf c) (restText cs) (token-space c (w .0 .code)))
+    ∙ rest-back n (0 + length (textOf c)) (textOf c) c cs h (w .1) (token-back n c h (w .0))
 
 -- the text of a list that the writer takes reads as that list
 pub round-trip : (n : ℕ) (cs : List ℕ) → sized n ≡ true → refusalIn 2 (n - 1) cs ≡ 0 → reading n (wordsFrom (listText cs) 0) ≡ codes cs
-round-trip n cs s e = text-back n cs (sized-bounds n s .1) (writable n cs e)
+round-trip n cs s e = text-back n cs (sized-bounds n s .1) (taken-good 2 (n - 1) cs e)
 
 -- a count is answered exactly where nothing is refused
 taken-zero : (n : ℕ) (cs text : List ℕ) (k : ℕ) → Value k ≡ answer (writeRefusal n cs (length text)) (length (listText cs))

@@ -1,10 +1,9 @@
 -- Simplifying: neighbours join until none join, the result is unique, and a second pass changes nothing.
 use Prim.Native.Nat.{ℕ}
-use mathlib.Core.Path.{_≡_, refl, sym, ap, _∙_}
-use mathlib.Core.Bool.{Bool, true, false}
+use mathlib.Core.Path.{_≡_, refl, sym, _∙_}
 use mathlib.Core.List.{List, [], _∷_}
-use Rattle.ground.specs.Choice.{pick, bool-cases}
-use Rattle.scramble_parser.specs.Lists.{joins, join, push, simplify, Reduced, Turned, Step, here, there, Steps, done, then}
+use Rattle.ground.specs.Choice.{bool-cases}
+use Rattle.scramble_parser.specs.Lists.{joins, join, push, simplify, Reduced, Turned, here, there, Steps, done, then}
 use Rattle.scramble_parser.specs.SimplifyLaws.{simplify-reduced, simplify-fixed, step-simplify, step-turned}
 
 -- nothing joins in the result

@@ -1,24 +1,23 @@
 -- The accepted tokens are no others than the writer's texts, and those of a wide move of width 2 with a `2` before them.
 use Prim.Native.Nat.{ℕ, suc, _+_, _-_, _*_, _/_, _%_, _≤_, _<_}
 use mathlib.Core.Path.{_≡_, refl, sym, ap, subst, _∙_}
-use mathlib.Core.Bool.{Bool, true, false, true≢false}
+use mathlib.Core.Bool.{true, false, true≢false}
 use mathlib.Core.Logic.{_⊎_, inl, inr, ⊎-elim}
 use mathlib.Core.List.{List, [], _∷_, _++_}
 use native.Mathlib.Omega.{arith}
 use native.Mathlib.Numerals.{add-one, add-two}
 use lib.ListN.{length, getD, take, drop, length-drop, take-append-drop}
 use lib.Seq.{drop-cons, getD-drop}
-use lib.Dec.{ltb, leb, eqb}
+use lib.Dec.{ltb, eqb}
 use borrow.Author.Tests.{eq-eqb, ne-eqb, lt-ltb, le-ltb, eqb-true, eqb-false, ltb-true, ltb-false}
-use Rattle.ground.specs.Choice.{pick, bool-cases, position, position-found, position-most}
+use Rattle.ground.specs.Choice.{bool-cases, position, position-found, position-most}
 use Rattle.generic_cube.specs.Code.{moveOf, isWide, badCode, outside, badWidthIn}
 use Rattle.generic_cube.specs.CodeLaws.{code-bounds, code-width}
-use Rattle.scramble_parser.specs.declared.Token.{Token}
 use Rattle.scramble_parser.specs.declared.Token.the-variants.{Is, Not}
 use Rattle.scramble_parser.specs.Token.{kindLetters, letterOf, isFace, plainKind, markOf, digitOf, isDigit, digitsOf, numberOf, plainOf, wideOf, startsWide, readToken}
 use Rattle.scramble_parser.specs.Write.{kindByte, markText, widthText, tokenText, textOf}
 use Rattle.scramble_parser.specs.WriteLaws.{width-none, width-one, width-two, width-three}
-use Rattle.theorems.specs.RoundTrip.{text-of, wide-byte, wide-kind, wide-read, wide-behind, digit-of, digit-is, letter-is}
+use Rattle.theorems.specs.RoundTrip.{Writable, text-of, wide-byte, wide-kind, wide-read, wide-behind, digit-of, digit-is, letter-is}
 
 never {ℓ} : {A : Type ℓ} (k c : ℕ) → Not k ≡ Is c → A
 never k c e = let y : _≡_ {A = ℕ} 0 1 = cc in absurd (omega arith)
@@ -60,10 +59,9 @@ letter-back b n =
 
 -- ---- the text of a code that was read
 
--- the code and width are the writer's, and its text is this
+-- the writer takes it, and this is its text
 pub record Coded (n c : ℕ) (text : List ℕ) : Type 0 where
-  pub code : badCode (moveOf c) ≡ false
-  pub width : badWidthIn 2 (n - 1) (moveOf c) ≡ false
+  pub good : Writable n c
   pub spell : textOf c ≡ text
 
 record PlainKind (p k : ℕ) : Type 0 where
@@ -98,8 +96,7 @@ plain-coded n p u c hp lu hu e =
     let d : c / 64 ≡ 0 = omega arith in
     let g = good-plain c (plainKind p) u a b d (f .most) (f .plain) lu in
     record {
-      code = g;
-      width = rw (a, f .plain);
+      good = record { code = g; width = rw (a, f .plain) };
       spell = rw (text-of c g, a, b, f .plain, f .byte);
     }
 
@@ -119,8 +116,7 @@ wide-coded n w p u c hp lu hu o e =
     let y : kindByte (p + 6) ≡ getD kindLetters p 0 = wide-byte (p + 6) (omega arith) ∙ ap (λ (x : ℕ). getD kindLetters x 0) q in
     let g = good-wide c (p + 6) u a b (omega arith) i lu in
     record {
-      code = g;
-      width = rw (a, d, i, o);
+      good = record { code = g; width = rw (a, d, i, o) };
       spell = text-of c g ∙ rw (a, b, d, i, y);
     }
 
@@ -140,8 +136,7 @@ plain-shape n (b ∷ l) c e =
     let f = letter-back b (eqb-false (letterOf b) 9 t) in
     let k = plain-coded n (letterOf b) (markOf (getD l 0 0) .turn) c (f .0) (m .low) (m .high) (sym q) in
     record {
-      code = k .code;
-      width = k .width;
+      good = k .good;
       spell = k .spell ∙ ap (λ (x : ℕ). x ∷ markText (markOf (getD l 0 0) .turn)) (f .1) ∙ ap (λ (x : List ℕ). b ∷ x) (sym (m .text));
     })
     (λ s. never 4 c (rw (t, s) at e)))
@@ -327,8 +322,7 @@ width-back t k e l h z =
 
 -- a token that is read as c: c is a code that the writer takes, and the token its text, or for width 2 that with a `2` before it
 pub record Spelled (n : ℕ) (t : List ℕ) (c : ℕ) : Type 0 where
-  pub code : badCode (moveOf c) ≡ false
-  pub width : badWidthIn 2 (n - 1) (moveOf c) ≡ false
+  pub good : Writable n c
   pub text : (t ≡ textOf c) ⊎ ((c / 64 ≡ 2) × (t ≡ 50 ∷ textOf c))
 
 wide-spelled : (n w : ℕ) (t : List ℕ) (k c p u : ℕ) → WideShape n w t k c p u → Width (take k t) w → Spelled n t c
@@ -337,8 +331,7 @@ wide-spelled n w t k c p u s v =
     let g = wide-coded n w p u c (s .place) (s .low) (s .high) (s .range) (s .code) in
     let body : List ℕ = getD kindLetters p 0 ∷ 119 ∷ markText u in
     record {
-      code = g .code;
-      width = g .width;
+      good = g .good;
       text = ⊎-elim
           (λ q. inl (s .text ∙ ap (λ (ds : List ℕ). ds ++ body) q ∙ sym (g .spell)))
           (λ q. inr (
@@ -357,7 +350,7 @@ spelled n t c e =
     bool-cases (eqb (digitsOf t) 0)
     (λ z. bool-cases (startsWide t)
     (λ u. wide-spelled n 2 t 0 c _ _ (wide-shape n 2 t 0 c (rw (z, u) at e)) (inl (sym (width-none refl))))
-    (λ u. let g = plain-shape n t c (rw (z, u) at e) in record { code = g .code; width = g .width; text = inl (sym (g .spell)) }))
+    (λ u. let g = plain-shape n t c (rw (z, u) at e) in record { good = g .good; text = inl (sym (g .spell)) }))
     (λ z. bool-cases (eqb (digitsOf t) 4) (λ x. never 4 c (rw (z, x) at e)) (λ x.
     bool-cases (eqb (getD t 0 0) 48) (λ y. never 4 c (rw (z, x, y) at e)) (λ y.
     let z0 = eqb-false (digitsOf t) 0 z in let z4 = eqb-false (digitsOf t) 4 x in
@@ -365,9 +358,11 @@ spelled n t c e =
     (width-back t (digitsOf t) refl (omega arith) (omega arith) (eqb-false (getD t 0 0) 48 y)))))
 
 -- and a `2` before the text of a wide move of width 2 is accepted too
-pub two-back : (n c : ℕ) → badCode (moveOf c) ≡ false → badWidthIn 2 (n - 1) (moveOf c) ≡ false → c / 64 ≡ 2 → readToken n (50 ∷ textOf c) ≡ Is c
+pub two-back : (n c : ℕ) → Writable n c → c / 64 ≡ 2 → readToken n (50 ∷ textOf c) ≡ Is c
 unfolding tokenText digitsOf numberOf
-two-back n c e d w =
+two-back n c g w =
+    let e = g .code in
+    let d = g .width in
     let q = code-bounds c e in
     bool-cases (isWide (c / 4 % 16))
     (λ s.

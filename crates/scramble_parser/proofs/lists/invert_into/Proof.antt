@@ -1,7 +1,7 @@
 -- `invert_into`: the first j codes of the inverse are stored.
 use Prim.Native.Nat.{_-_}
-use mathlib.Core.Path.{_≡_, refl, sym, ap, _∙_}
-use mathlib.Core.List.{List, [], _∷_}
+use mathlib.Core.Path.{refl, sym, ap, _∙_}
+use mathlib.Core.List.{[], _∷_}
 use lib.ListN.{length}
 use lib.Seq.{sets}
 use Rattle.generic_cube.specs.AllMovesLaws.{Looped, loop-none, loop-more, loop-all, put-one, put-length, each-self}

@@ -1,4 +1,4 @@
-use borrow.Author.Tests.{eq-eqb, ne-eqb, lt-ltb, le-ltb}
+use borrow.Author.Tests.{eq-eqb, ne-eqb}
 use Rattle.scramble_parser.specs.SimplifyLaws.{pushed-first, pushed-other, pushed-gone, pushed-joined}
 use borrow.Author.Needs.{needs}
 use Rattle.scramble_parser.proofs.lists.push.Statement.{statement}

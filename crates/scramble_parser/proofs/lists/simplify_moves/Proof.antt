@@ -4,7 +4,6 @@ use lib.ListN.{length}
 use Rattle.scramble_parser.specs.Room.{clear}
 use Rattle.scramble_parser.specs.Lists.{sameRefusal}
 use Rattle.scramble_parser.specs.ListLaws.{clear-turned, simplify-refused, simplified}
-use native.Mathlib.Omega.{arith}
 use borrow.Author.Needs.{needs}
 use Rattle.scramble_parser.proofs.lists.simplify_moves.Statement.{statement}
 use Rattle.scramble_parser.proofs.lists.simplify_moves.Tie as tie

@@ -1,4 +1,4 @@
-use borrow.Author.Tests.{eq-eqb, ne-eqb, lt-ltb, le-ltb, le-leb, lt-leb}
+use borrow.Author.Tests.{lt-ltb, le-ltb}
 use Rattle.scramble_parser.specs.Token.{digitOf}
 use native.Mathlib.Omega.{arith}
 use borrow.Author.Needs.{needs}

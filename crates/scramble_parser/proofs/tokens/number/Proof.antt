@@ -1,4 +1,4 @@
-use borrow.Author.Tests.{eq-eqb, ne-eqb, lt-ltb, le-ltb, le-leb, lt-leb}
+use borrow.Author.Tests.{eq-eqb, ne-eqb}
 use Rattle.scramble_parser.specs.Token.{numberOf}
 use borrow.Author.Needs.{needs}
 use Rattle.scramble_parser.proofs.tokens.number.Statement.{statement}

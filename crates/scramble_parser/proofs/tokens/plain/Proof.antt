@@ -1,4 +1,4 @@
-use borrow.Author.Tests.{eq-eqb, ne-eqb, lt-ltb, le-ltb, le-leb, lt-leb}
+use borrow.Author.Tests.{eq-eqb, ne-eqb, lt-ltb, le-ltb}
 use Rattle.scramble_parser.specs.Token.{plainOf, plainKind}
 use borrow.Author.Needs.{needs}
 use Rattle.scramble_parser.proofs.tokens.plain.Statement.{statement}

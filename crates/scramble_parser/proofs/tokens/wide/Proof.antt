@@ -4,7 +4,7 @@ use mathlib.Core.Path.{_≡_}
 use Rattle.ground.specs.Choice.{pick}
 use Rattle.generic_cube.specs.Code.{outside}
 use Rattle.scramble_parser.specs.declared.Token.the-variants.{Is, Not}
-use borrow.Author.Tests.{eq-eqb, ne-eqb, lt-ltb, le-ltb, le-leb, lt-leb}
+use borrow.Author.Tests.{eq-eqb, ne-eqb, lt-ltb, le-ltb}
 use mathlib.Core.Path.{sym, _∙_}
 use Rattle.generic_cube.specs.CodeLaws.{sized-bounds, inside}
 use Rattle.scramble_parser.specs.Token.{wideOf, isFace}

@@ -4,7 +4,6 @@ use lib.ListN.{length, getD}
 use Rattle.scramble_parser.specs.Write.{textOf, restText, listText}
 use native.Mathlib.Omega.{arith}
 use Rattle.generic_cube.specs.AllMovesLaws.{put-room}
-use mathlib.Core.Path.{sym, subst}
 use Rattle.scramble_parser.specs.WriteLaws.{tail, text-length, put-empty, put-text}
 use borrow.Author.Needs.{needs}
 use Rattle.scramble_parser.proofs.write.put_text.Statement.{statement}

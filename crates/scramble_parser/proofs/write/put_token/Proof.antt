@@ -1,5 +1,5 @@
 use native.Mathlib.Omega.{arith}
-use Rattle.generic_cube.specs.AllMovesLaws.{Put, put-then, put-room}
+use Rattle.generic_cube.specs.AllMovesLaws.{Put, put-room}
 use Prim.Native.Nat.{ℕ, _+_, _≤_}
 use mathlib.Core.Path.{_≡_, _∙_}
 use mathlib.Core.Bool.{true, false}
@@ -7,7 +7,7 @@ use mathlib.Core.List.{List, [], _∷_}
 use lib.ListN.{length}
 use Rattle.generic_cube.specs.Code.{isWide}
 use Rattle.scramble_parser.specs.Write.{kindByte, markText, widthText}
-use mathlib.Core.Path.{sym, subst}
+use mathlib.Core.Path.{sym}
 use Rattle.scramble_parser.specs.WriteLaws.{wide-length, plain-length, put-wide, put-plain}
 use borrow.Author.Needs.{needs}
 use Rattle.scramble_parser.proofs.write.put_token.Statement.{statement}

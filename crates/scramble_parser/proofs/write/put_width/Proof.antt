@@ -4,7 +4,6 @@ use Prim.Native.Nat.{_+_, _/_, _%_}
 use mathlib.Core.Path.{_≡_}
 use mathlib.Core.List.{[], _∷_}
 use Rattle.scramble_parser.specs.Write.{widthText}
-use mathlib.Core.Path.{sym, subst}
 use Rattle.scramble_parser.specs.WriteLaws.{width-none, width-one, width-two, width-three}
 use borrow.Author.Needs.{needs}
 use Rattle.scramble_parser.proofs.write.put_width.Statement.{statement}
