@@ -1,13 +1,14 @@
 /* Reads a scramble, turns a solved cube by it, and finds the turns that bring it home. */
 #include "cubesim.h"
 #include <stdio.h>
+#include <stdlib.h>
 #include <string.h>
 
 /* The value of an answer, or the end of the program with the refusal's number. */
 static uint64_t taken(const char *what, uint64_t answer) {
     if (cubesim_number(answer) != 0) {
         printf("%s: refused %u at %llu\n", what, cubesim_number(answer), (unsigned long long)cubesim_value(answer));
-        _Exit(1);
+        exit(1);
     }
     return cubesim_value(answer);
 }

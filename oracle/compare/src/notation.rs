@@ -10,7 +10,7 @@ fn token(n: usize, t: &[u8]) -> Result<u16, u8> {
     let rest = &t[digits..];
     let (kind, after) = match rest.first().and_then(|b| b"ULFRBDxyz".iter().position(|k| k == b)) {
         Some(k) if k < 6 => (k, &rest[1..]),
-        Some(k) if digits == 0 => (k + 6, &rest[1..]),
+        Some(k) if digits == 0 => (k, &rest[1..]),
         _ => return Err(4),
     };
     let wide = kind < 6 && after.first() == Some(&b'w');
