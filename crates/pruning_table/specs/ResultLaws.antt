@@ -2,10 +2,11 @@
 use Prim.Native.Nat.{ℕ, _+_, _*_, _%_, _≤_, _<_}
 use mathlib.Core.Path.{_≡_, refl, sym, ap, ap₂, subst, _∙_}
 use mathlib.Core.Bool.{Bool, true, false, not}
-use mathlib.Core.List.{List, _++_}
+use mathlib.Core.List.{List, _++_, append-nil}
 use native.Mathlib.Omega.{arith}
 use lib.Dec.{eqb, ltb}
-use lib.ListN.{length, drop, replicate}
+use lib.ListN.{length, take, drop, replicate}
+use lib.Seq.{take-length, drop-length}
 use borrow.Author.Tests.{lt-ltb, le-ltb, eq-eqb, ne-eqb, eqb-true, eqb-false, not-false}
 use Rattle.ground.specs.Choice.{pick, bool-cases}
 use Rattle.generic_cube.specs.Numbers.{small, beyond, stickers, answer}
@@ -56,6 +57,12 @@ grew-bytes {m} {count} {table} {t} {t′} g =
 
 pub grew-count : {m count : ℕ} {table : List Entry} {t t′ : List ℕ} → Grew m table t 0 t′ count → length table ≡ count
 grew-count {m} {count} {t′ = t′} g = ap length (sym (g .holds)) ∙ length-held m count t′
+
+-- a slice that was cleared from its front to its end
+pub wiped : {ys : List ℕ} (t t′ : List ℕ) → ys ≡ replicate (length (take (length t′) t′)) 0 → length t′ ≡ length t
+    → ys ++ drop (length t′) t′ ≡ replicate (length t) 0
+wiped {ys} t t′ e l =
+    ap₂ _++_ (e ∙ ap (λ (k : ℕ). replicate k 0) (ap length (take-length t′) ∙ l)) (drop-length t′) ∙ append-nil (replicate (length t) 0)
 
 module _ (n : ℕ) (starts moves : List ℕ) (depth : ℕ) (t : List ℕ) where
   -- the result of an early refusal

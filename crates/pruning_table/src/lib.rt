@@ -296,7 +296,8 @@ pub fn pruning_table(
         return Answer::Refused(number);
     }
     let Growth::To(count) = fill(table, n, starts, moves, depth) else {
-        ground::bytes::clear(table);
+        let whole = table.len();
+        ground::bytes::clear(&mut table[..whole]);
         return Answer::Refused(6);
     };
     Answer::Value(count)

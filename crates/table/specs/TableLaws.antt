@@ -17,7 +17,7 @@ use Rattle.table.specs.declared.Order.{Order}
 use Rattle.table.specs.declared.Order.the-variants.{Less, Same, More}
 use Rattle.table.specs.declared.Spot.the-variants.{At, Gap}
 use Rattle.table.specs.Order.{orderOf, isSame, isLess}
-use Rattle.table.specs.OrderLaws.{same-eq, eq-same, more-flip, less-trans, is-less, less-not-same, flip-not-same}
+use Rattle.table.specs.OrderLaws.{order-split, same-eq, eq-same, more-flip, less-trans, is-less, less-not-same, flip-not-same}
 use Rattle.table.specs.Asked.{Held}
 use Rattle.table.specs.Table.{keyAt, numberAt, entries, look, rises, numberOf, wellFormed, Rising, Between}
 
@@ -182,3 +182,16 @@ module _ (k : ℕ → List ℕ) (s : List ℕ) (n : ℕ) (up : Rising k n) (mid 
   half-more e i le lt =
       ⊎-elim (λ (h : mid ≡ i). subst (λ (a : ℕ). orderOf s (k a) ≡ Less) h (more-flip (k mid) s e))
       (λ (h : mid < i). less-trans s (k mid) (k i) (more-flip (k mid) s e) (up mid i h lt)) (eq-or-lt-of-le le)
+
+-- a lookup finds the key, or gives what it gives where there is none
+pub look-cases {ℓ} : {A : Type ℓ} (k : ℕ → List ℕ) (v : ℕ → ℕ) (s : List ℕ) (d i n : ℕ) → ((j : ℕ) → i ≤ j → j < i + n → k j ≡ s → A)
+    → (look k v s d i n ≡ d → A) → A
+unfolding look
+look-cases k v s d i zero f g = g refl
+look-cases {A = A} k v s d i (suc n) f g =
+    let miss : isSame (orderOf (k i) s) ≡ false → A =
+    λ e. look-cases k v s d (suc i) n (λ j h l q. f j (omega arith) (omega arith) q) (λ q. g (rw e q)) in
+    order-split (orderOf (k i) s)
+    (λ e. miss (ap isSame e))
+    (λ e. f i (omega arith) (omega arith) (same-eq (k i) s e))
+    (λ e. miss (ap isSame e))

@@ -1,9 +1,10 @@
 -- `pruning_table`: an early refusal, states that have no room, or the table.
-use Prim.Native.Nat.{ℕ}
+use native.Mathlib.Omega.{arith}
 use mathlib.Core.Path.{_≡_, sym, ap, _∙_}
-use lib.ListN.{length, replicate}
+use lib.ListN.{length}
+use lib.Seq.{take-length}
 use Rattle.pruning_table.specs.Built.{earlyRefusal}
-use Rattle.pruning_table.specs.ResultLaws.{early-ready, result-refused, result-over, result-built}
+use Rattle.pruning_table.specs.ResultLaws.{early-ready, wiped, result-refused, result-over, result-built}
 use borrow.Author.Needs.{needs}
 use Rattle.pruning_table.proofs.pruning_table.Statement.{statement}
 use Rattle.pruning_table.proofs.pruning_table.Tie as tie
@@ -27,6 +28,12 @@ enum-known-count c = search needs
 enum-told : tie.Need-enum-told
 enum-told c = search needs
 
+slice-relend-prefix-clear : tie.Need-slice-relend-prefix-clear
+slice-relend-prefix-clear c = search needs
+
+slice-aggregate-clear : tie.Need-slice-aggregate-clear
+slice-aggregate-clear c = omega (arith, ap length (take-length (c .before .before .before .before .before .fill .last .0)))
+
 clear-requires : tie.Need-clear-requires
 clear-requires c κs = search needs
 
@@ -36,7 +43,7 @@ same-length c = search needs
 returns-2 : tie.Need-returns-2
 returns-2 c =
     result-over _ _ _ _ _ (good (c .before .before .before .before .before .before .before .before .before .before)) (c .before .before .before .before .before .before .before .before .fill .ensures .over (c .before .before .before .before .enum-told .given .1))
-    (c .before .before .clear .ensures ∙ ap (λ (k : ℕ). replicate k 0) (c .before .before .before .before .before .before .before .before .fill .kept .0))
+    (wiped (c .before .before .before .before .before .before .before .before .before .before .before .before .before .before .before .args .table .now) (c .before .before .before .before .before .before .before .before .fill .last .0) (c .before .before .clear .ensures) (c .before .before .before .before .before .before .before .before .fill .kept .0))
 
 same-length-2 : tie.Need-same-length-2
 same-length-2 c = search needs
@@ -53,6 +60,8 @@ pruning-table-spec =
     fill-requires
     enum-known-count
     enum-told
+    slice-relend-prefix-clear
+    slice-aggregate-clear
     clear-requires
     same-length
     returns-2
