@@ -85,7 +85,7 @@ module _ (n : ℕ) (starts moves : List ℕ) (depth : ℕ) (table : List ℕ) (b
 
 -- the used part of the builder's table, as the search takes it
 module _ (n : ℕ) (starts moves : List ℕ) (depth : ℕ) (some : 0 < stickers n) where
-  used-length : length (bytes (tableOf n starts moves depth)) ≡ length (tableOf n starts moves depth) * (stickers n + 1)
+  pub used-length : length (bytes (tableOf n starts moves depth)) ≡ length (tableOf n starts moves depth) * (stickers n + 1)
   used-length = length-bytes (stickers n) (tableOf n starts moves depth) (table-long n starts moves depth some)
 
   used-entries : length (tableOf n starts moves depth) ≡ entries (stickers n) (bytes (tableOf n starts moves depth))

@@ -9,7 +9,7 @@ use lib.ListN.{length, replicate}
 use borrow.Author.Tests.{eqb-true, eqb-false, ltb-true, ltb-false}
 use Rattle.ground.specs.Choice.{pick, bool-cases, any}
 use Rattle.generic_cube.specs.Numbers.{small, beyond, stickers, answer}
-use Rattle.generic_cube.specs.Code.{moveOf, badCode, badWidth, listRefusal}
+use Rattle.generic_cube.specs.Code.{moveOf, badCode, badWidth, listRefusal, refusalIn}
 use Rattle.generic_cube.specs.declared.Answer.{Answer}
 use Rattle.generic_cube.specs.declared.Answer.the-variants.{Value, Refused}
 use Rattle.geometric_moves.specs.Turn.{listOff}
@@ -26,7 +26,7 @@ not-six true k rest h e = absurd (h e)
 not-six false k rest h e = e
 
 list-not-six : (n : ℕ) (moves : List ℕ) → listRefusal n moves ≡ 6 → ⊥
-unfolding listRefusal
+unfolding listRefusal refusalIn badWidth
 list-not-six n moves e =
     let a = not-six (any (λ c. badCode (moveOf c)) moves) 3 _ (λ q. omega arith) e in
     let b : _≡_ {A = ℕ} 0 6 = not-six (any (λ c. badWidth n (moveOf c)) moves) 5 _ (λ q. omega arith) a in
@@ -44,7 +44,7 @@ early-not-six n starts moves depth e =
 
 module _ {n : ℕ} {starts moves : List ℕ} {depth : ℕ} {t t′ : List ℕ} where
   -- the three ways in which a call ends
-  result-cases {ℓ} : {A : Type ℓ} {r : Answer} → PruningTableResult n starts moves depth t t′ r
+  pub result-cases {ℓ} : {A : Type ℓ} {r : Answer} → PruningTableResult n starts moves depth t t′ r
       → ((earlyRefusal n (length starts) moves depth ≡ 0 → ⊥) → r ≡ Refused (earlyRefusal n (length starts) moves depth) → t′ ≡ t → A)
       → (earlyRefusal n (length starts) moves depth ≡ 0 → entries (stickers n) t < length (tableOf n starts moves depth) → r ≡ Refused 6
       → t′ ≡ replicate (length t) 0 → A)

@@ -7,3 +7,4 @@ pub mod RoundTrip
 pub mod Spelled
 pub mod Effects
 pub mod Cases
+pub mod Solving
