@@ -8,3 +8,4 @@ pub mod Spelled
 pub mod Effects
 pub mod Cases
 pub mod Solving
+pub mod OneAnswer

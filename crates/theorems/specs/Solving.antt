@@ -38,9 +38,9 @@ module _ {n : ℕ} {starts moves : List ℕ} {depth : ℕ} {t t′ : List ℕ} {
       let some = cube-some size in
       let l = used-length n starts moves depth (omega arith) in
       let u : used n count t′ ≡ bytes (tableOf n starts moves depth)
-            = ap (λ (x : List ℕ). take (count * (stickers n + 1)) x) w
-            ∙ take-at (bytes (tableOf n starts moves depth)) (drop (length (bytes (tableOf n starts moves depth))) t) (count * (stickers n + 1))
-              (l ∙ ap (λ k. k * (stickers n + 1)) (sym c)) in
+      = ap (λ (x : List ℕ). take (count * (stickers n + 1)) x) w
+      ∙ take-at (bytes (tableOf n starts moves depth)) (drop (length (bytes (tableOf n starts moves depth))) t) (count * (stickers n + 1))
+      (l ∙ ap (λ k. k * (stickers n + 1)) (sym c)) in
       subst (λ (x : List ℕ). AdmissibleTable n x depth moves) (sym u) (built-admissible n starts moves depth (omega arith) barred (omega arith) inv))
 
   -- DEMAND 3 for tables built here
