@@ -1,9 +1,14 @@
 // Document 01's cases, run: each line says what was asked, and what the library answered.
 use generic_cube::Answer;
 use generic_cube::Done;
+use ida_star::Outcome;
 use libc::STDOUT_FILENO;
+use scramble_parser::Parsed;
 
 mod ground_floor;
+mod notation;
+mod refusals;
+mod solving;
 
 fn write(text: &[u8]) {
     io::write_all(STDOUT_FILENO, text);
@@ -36,6 +41,54 @@ fn write_answer(r: Answer) {
     }
 }
 
+fn write_parsed(r: Parsed) {
+    match r {
+        Parsed::Moves(count) => write_number(count),
+        Parsed::Refused(k) => write_refusal(k),
+        Parsed::RefusedAt(k, at) => {
+            write_refusal(k);
+            write(b" at ");
+            write_number(at);
+        }
+    }
+}
+
+fn write_outcome(r: Outcome) {
+    match r {
+        Outcome::Found(count) => {
+            write(b"found ");
+            write_number(count);
+        }
+        Outcome::Nothing => write(b"none"),
+        Outcome::Refused(k) => write_refusal(k),
+    }
+}
+
+// The first codes of a list, each after a space.
+fn write_codes(codes: &[u16], count: usize) {
+    let mut i: usize = 0;
+    while i < codes.len() {
+        if i < count {
+            write(b" ");
+            write_number(codes[i] as usize);
+        }
+        i += 1;
+    }
+}
+
+// Bytes as numbers, each after a space.
+fn write_bytes(bytes: &[u8]) {
+    let mut i: usize = 0;
+    while i < bytes.len() {
+        write(b" ");
+        write_number(bytes[i] as usize);
+        i += 1;
+    }
+}
+
 fn main() {
     ground_floor::run();
+    notation::run();
+    solving::run();
+    refusals::run();
 }
