@@ -1,23 +1,22 @@
 -- Tables that are exact are admissible where the candidates hold the inverse of each of their moves.
-use Prim.Native.Nat.{ℕ, suc, _+_, _*_, _/_, _%_, _≤_, _<_}
-use mathlib.Core.Path.{_≡_, refl, sym, ap, subst, _∙_}
+use Prim.Native.Nat.{ℕ, _+_, _*_, _/_, _%_, _<_}
+use mathlib.Core.Path.{_≡_, sym, ap, subst, _∙_}
 use mathlib.Core.Bool.{Bool, true}
-use mathlib.Core.List.{List, [], _++_, append-nil, List·Memᴰ}
+use mathlib.Core.List.{List, [], append-nil, List·Memᴰ}
 use native.Mathlib.Nat.{mul-div-cancel, mul-mod-left}
-use native.Mathlib.Numerals.{add-one}
 use native.Mathlib.Omega.{arith}
 use lib.ListN.{length}
 use Rattle.ground.specs.Sides.{less-cases}
 use Rattle.generic_cube.specs.declared.Move.{Move}
 use Rattle.generic_cube.specs.Numbers.{stickers}
 use Rattle.generic_cube.specs.Code.{moveOf}
-use Rattle.geometric_moves.specs.Turn.{moved, back}
+use Rattle.geometric_moves.specs.Turn.{moved}
 use Rattle.geometric_moves.specs.MovedLaws.{length-moved, moved-back}
-use Rattle.table.specs.Table.{keyAt, numberAt, entries, look, numberOf, wellFormed, Rising}
+use Rattle.table.specs.Table.{keyAt, numberAt, entries, numberOf, wellFormed, Rising}
 use Rattle.table.specs.TableLaws.{formed-rising, rising-formed, look-found, look-cases}
 use Rattle.search_theory.specs.Search.{Task, Admissible}
 use Rattle.search_theory.specs.Demand.{Kept}
-use Rattle.search_theory.specs.Levels.{Present, Reach, Least, Exact}
+use Rattle.search_theory.specs.Levels.{Present, Reach, Exact}
 use Rattle.search_theory.specs.LevelsLaws.{Undone, Counted, counted}
 use Rattle.pruning_table.specs.Built.{bytes, tableOf}
 use Rattle.pruning_table.specs.HeldLaws.{length-bytes}

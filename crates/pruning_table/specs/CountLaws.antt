@@ -1,22 +1,19 @@
 -- The table built level by level holds exactly the states reachable within its depth, each with the least count.
-use Prim.Native.Nat.{ℕ, zero, suc, _+_, _≤_, _<_}
+use Prim.Native.Nat.{ℕ, zero, suc, _≤_, _<_}
 use mathlib.Core.Path.{_≡_, refl, sym, ap, subst, _∙_}
 use mathlib.Core.Logic.{_⊎_, inl, inr, ⊎-elim}
-use mathlib.Core.Bool.{true, false}
-use mathlib.Core.List.{List, [], _∷_, _++_, map, List·Memᴰ, List·Memᴰ·head, List·Memᴰ·tail, List·Memᴰ·cases-cons, List·Memᴰ·not-nil, Memᴰ·cast, Memᴰ·append-left, Memᴰ·append-right, List·Memᴰ·append-cases}
+use mathlib.Core.List.{List, [], _∷_, List·Memᴰ, List·Memᴰ·head, List·Memᴰ·tail, List·Memᴰ·cases-cons, List·Memᴰ·not-nil, Memᴰ·cast, Memᴰ·append-left, Memᴰ·append-right, List·Memᴰ·append-cases}
 use native.Mathlib.Nat.{eq-or-lt-of-le}
 use native.Mathlib.Omega.{arith}
 use lib.Dec.{eqb}
 use borrow.Author.Tests.{eqb-true, eq-eqb}
 use Rattle.ground.specs.Choice.{bool-cases}
-use Rattle.generic_cube.specs.Code.{moveOf}
-use Rattle.geometric_moves.specs.Turn.{moved}
-use Rattle.table.specs.declared.Order.the-variants.{Less, Same, More}
+use Rattle.table.specs.declared.Order.the-variants.{Less}
 use Rattle.table.specs.Order.{orderOf}
 use Rattle.table.specs.OrderLaws.{order-split, same-eq, more-flip, less-trans, less-irrefl}
-use Rattle.search_theory.specs.Levels.{Step, Reach, Least}
+use Rattle.search_theory.specs.Levels.{Reach, Least}
 use Rattle.pruning_table.specs.Built.{Entry, entry, add, addAll, nexts, spread, frontier, built}
-use Rattle.pruning_table.specs.AddLaws.{Sorted, add-less, add-same, add-more, add-old, add-cases, add-sorted, all-sorted}
+use Rattle.pruning_table.specs.AddLaws.{Sorted, add-less, add-same, add-old, add-cases, add-sorted, all-sorted}
 use Rattle.pruning_table.specs.Exact.{movedBy}
 
 -- a cube is the key of an entry

@@ -1,27 +1,22 @@
 -- The builder's result meets the rule of a table, the rule leaves one buffer, and 6 is given exactly where no buffer can meet it.
 use Prim.Native.Nat.{ℕ, zero, suc, _+_, _*_, _/_, _≤_, _<_}
 use mathlib.Core.Path.{_≡_, refl, sym, ap, ap₂, subst, _∙_}
-use mathlib.Core.Bool.{Bool, true, false, true≢false, not}
 use mathlib.Core.List.{List, [], _∷_, _++_, List·Memᴰ, List·Memᴰ·head, List·Memᴰ·tail, List·Memᴰ·cases-cons, List·Memᴰ·not-nil}
 use mathlib.Core.Logic.{⊎-elim}
 use native.Mathlib.Nat.{suc-mul, le-div-iff-mul-le}
 use native.Mathlib.Omega.{arith}
-use lib.Dec.{eqb, ltb}
-use lib.ListN.{length, take, drop, getD, length-drop, length-append, replicate}
+use lib.ListN.{length, take, drop, getD, length-drop, length-append}
 use lib.Seq.{length-take-le, drop-at, ext-getD}
-use borrow.Author.Tests.{eqb-true, eqb-false, lt-ltb, ltb-true, ltb-false}
-use Rattle.ground.specs.Choice.{pick, bool-cases}
 use Rattle.ground.specs.Members.{member-at, member-place}
-use Rattle.ground.specs.Sides.{less-cases, order-cases}
-use Rattle.generic_cube.specs.Numbers.{stickers, answer}
-use Rattle.generic_cube.specs.declared.Answer.the-variants.{Value, Refused}
+use Rattle.ground.specs.Sides.{order-cases}
+use Rattle.generic_cube.specs.Numbers.{stickers}
 use Rattle.geometric_moves.specs.MovedLaws.{length-moved}
-use Rattle.table.specs.declared.Order.the-variants.{Less, Same, More}
+use Rattle.table.specs.declared.Order.the-variants.{Less}
 use Rattle.table.specs.Order.{orderOf}
 use Rattle.table.specs.OrderLaws.{order-split}
 use Rattle.table.specs.Table.{keyAt, numberAt, entries, Rising}
-use Rattle.search_theory.specs.Levels.{Present, Reach, Least, Exact}
-use Rattle.pruning_table.specs.Built.{Entry, entry, bytes, add, addAll, spread, frontier, built, cubes, startsOf, tableOf, earlyRefusal, outnumbered, pruningRefusal, pruningOut, over, PruningTableResult}
+use Rattle.search_theory.specs.Levels.{Present, Least, Exact}
+use Rattle.pruning_table.specs.Built.{Entry, entry, bytes, add, addAll, spread, frontier, built, cubes, startsOf, tableOf, over}
 use Rattle.pruning_table.specs.AddLaws.{blank, keyIn, sorted-at}
 use Rattle.pruning_table.specs.Held.{held}
 use Rattle.pruning_table.specs.HeldLaws.{numberIn, length-held, held-key, held-number, Long, length-bytes, bytes-held, held-bytes, room-bytes}

@@ -1,13 +1,13 @@
 -- Laws of the entries that a slice holds: by place, as bytes, and with one more put among them.
 use Prim.Native.Nat.{ℕ, zero, suc, _+_, _-_, _*_, _/_, _≤_, _<_}
 use mathlib.Core.Path.{_≡_, refl, sym, ap, ap₂, subst, _∙_}
-use mathlib.Core.List.{List, [], _∷_, _++_, append-assoc, append-nil}
+use mathlib.Core.List.{List, [], _∷_, _++_, append-assoc}
 use native.Mathlib.Nat.{suc-mul, zero-mul, mul-le-mul-right, le-div-iff-mul-le}
 use native.Mathlib.Numerals.{add-one}
 use native.Mathlib.Omega.{arith}
 use lib.Arith.{lt-of-le-ne}
-use lib.ListN.{length, take, drop, getD, set, length-append, length-drop, take-append-drop, List·getD-append}
-use lib.Seq.{slice, slice-cons, slice-empty, length-slice, length-take-le, take-at, drop-at, getD-at, set-at, getD-take, getD-drop, take-suc, drop-drop, split-at, take-append-add, drop-append-seam, take-append-seam}
+use lib.ListN.{length, take, drop, getD, length-append, length-drop}
+use lib.Seq.{slice, length-take-le, take-at, drop-at, getD-at, getD-drop, drop-drop, split-at}
 use Rattle.table.specs.Order.{orderOf}
 use Rattle.table.specs.Table.{keyAt, numberAt, entries, Rising, Between}
 use Rattle.table.specs.TableLaws.{fits}

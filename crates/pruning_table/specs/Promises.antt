@@ -1,24 +1,28 @@
 -- What the builder promises, told by its answer.
 use Prim.Native.Nat.{ℕ, _+_, _*_, _%_, _≤_, _<_}
 use mathlib.Core.Path.{_≡_, refl, sym, ap, ap₂, subst, _∙_}
-use mathlib.Core.Bool.{Bool, true, false, true≢false, not}
+use mathlib.Core.Bool.{Bool, true, false, not}
 use mathlib.Core.List.{List}
 use native.Mathlib.Omega.{arith}
-use lib.Dec.{eqb, ltb}
-use lib.ListN.{length, replicate}
+use lib.Dec.{eqb}
+use lib.ListN.{length, take, drop, replicate}
+use lib.Seq.{take-at}
 use borrow.Author.Tests.{eqb-true, eqb-false, ltb-true, ltb-false}
 use Rattle.ground.specs.Choice.{pick, bool-cases, any}
-use Rattle.generic_cube.specs.Numbers.{small, beyond, stickers, answer}
+use Rattle.generic_cube.specs.Numbers.{small, beyond, stickers}
 use Rattle.generic_cube.specs.Code.{moveOf, badCode, badWidth, listRefusal}
 use Rattle.generic_cube.specs.declared.Answer.{Answer}
 use Rattle.generic_cube.specs.declared.Answer.the-variants.{Value, Refused}
 use Rattle.geometric_moves.specs.Turn.{listOff}
-use Rattle.table.specs.Table.{entries}
+use Rattle.table.specs.Table.{entries, wellFormed}
+use Rattle.search_theory.specs.Search.{Admissible}
 use Rattle.pruning_table.specs.Built.{bytes, tableOf, earlyRefusal, outnumbered, pruningRefusal, pruningOut, over, PruningTableResult}
 use Rattle.pruning_table.specs.ResultLaws.{early-ready}
 use Rattle.pruning_table.specs.SizeLaws.{cube-some}
-use Rattle.pruning_table.specs.Exact.{Exactly, Outnumber}
-use Rattle.pruning_table.specs.ExactLaws.{over-exact, outnumbers, none-fits}
+use Rattle.pruning_table.specs.Exact.{Exactly, Outnumber, Inverses}
+use Rattle.pruning_table.specs.HeldLaws.{length-bytes}
+use Rattle.pruning_table.specs.ExactLaws.{table-long, over-exact, outnumbers, none-fits}
+use Rattle.pruning_table.specs.AdmissibleLaws.{taskOf, Cube, used-formed, built-admissible}
 
 -- no early refusal is 6
 not-six : (b : Bool) (k rest : ℕ) → (k ≡ 6 → ⊥) → pick b k rest ≡ 6 → rest ≡ 6
@@ -60,6 +64,14 @@ module _ {n : ℕ} {starts moves : List ℕ} {depth : ℕ} {t t′ : List ℕ} w
       (λ o. g z (ltb-true _ _ o) (rw (e, o) at (p .answered)) (rw (e, o) at (p .written)))
       (λ o. h z (ltb-false _ _ o) (rw (e, o) at (p .answered)) (rw (e, o) at (p .written))))
       (λ e. f (eqb-false _ _ e) (simp e at (p .answered)) (rw e at (p .written)))
+
+  -- a table is built of cubes of size 1 or more
+  result-some : {count : ℕ} → PruningTableResult n starts moves depth t t′ (Value count) → 1 ≤ n
+  result-some p =
+      result-cases p
+      (λ e r w. let z : _≡_ {A = ℕ} 0 1 = cc in absurd (omega arith))
+      (λ e o r w. early-ready n (length starts) moves depth e .some)
+      (λ e o r w. early-ready n (length starts) moves depth e .some)
 
   -- a count: the buffer meets the rule
   pub exact-result : {count : ℕ} → PruningTableResult n starts moves depth t t′ (Value count) → Exactly n starts moves depth t t′ count
@@ -110,3 +122,29 @@ module _ {n : ℕ} {starts moves : List ℕ} {depth : ℕ} {t t′ : List ℕ} w
         let some = cube-some (early-ready n (length starts) moves depth z .some) in
         absurd (h (outnumbers n starts moves depth (omega arith) l)))
         (λ z l q w. q)
+
+  -- the used part is the table's bytes, as the search takes them
+  pub used-part : {count : ℕ} → PruningTableResult n starts moves depth t t′ (Value count) → take (count * (stickers n + 1)) t′ ≡ bytes (tableOf n starts moves depth)
+  used-part {count} p =
+      result-cases p
+      (λ e r w. let z : _≡_ {A = ℕ} 0 1 = cc in absurd (omega arith))
+      (λ e o r w. let z : _≡_ {A = ℕ} 0 1 = cc in absurd (omega arith))
+      (λ e o r w.
+      let c : count ≡ length (tableOf n starts moves depth) = cc in
+      let some = cube-some (early-ready n (length starts) moves depth e .some) in
+      let l = length-bytes (stickers n) (tableOf n starts moves depth) (table-long n starts moves depth (omega arith)) in
+      ap₂ (λ (k : ℕ) (b : List ℕ). take (k * (stickers n + 1)) b) c w
+      ∙ take-at (bytes (tableOf n starts moves depth)) (drop (length (bytes (tableOf n starts moves depth))) t) (length (tableOf n starts moves depth) * (stickers n + 1)) l)
+
+  -- it has a table's form; and it is admissible if the candidates hold the inverse of each of their moves
+  pub used-result : {count : ℕ} → PruningTableResult n starts moves depth t t′ (Value count) → wellFormed (stickers n) (take (count * (stickers n + 1)) t′) ≡ true
+  used-result {count} p =
+      let some = result-some p in
+      ap (wellFormed (stickers n)) (used-part p) ∙ used-formed n starts moves depth (omega (arith, cube-some some))
+
+  pub admissible-result : {count : ℕ} → PruningTableResult n starts moves depth t t′ (Value count) → (barred : ℕ → ℕ → Bool) → Inverses moves
+      → Admissible (taskOf n (take (count * (stickers n + 1)) t′) depth moves barred) (Cube n)
+  admissible-result {count} p barred inverses =
+      let some = result-some p in
+      subst (λ (l : List ℕ). Admissible (taskOf n l depth moves barred) (Cube n)) (sym (used-part p))
+      (built-admissible n starts moves depth (omega (arith, cube-some some)) barred some inverses)

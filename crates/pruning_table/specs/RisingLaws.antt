@@ -3,7 +3,7 @@ use Prim.Native.Nat.{ℕ, zero, suc, _≤_, _<_}
 use mathlib.Core.Path.{_≡_, refl, sym, ap, subst, _∙_}
 use mathlib.Core.List.{List}
 use native.Mathlib.Omega.{arith}
-use Rattle.ground.specs.Sides.{less-cases, order-cases}
+use Rattle.ground.specs.Sides.{order-cases}
 use Rattle.table.specs.declared.Order.the-variants.{Less}
 use Rattle.table.specs.Order.{orderOf}
 use Rattle.table.specs.OrderLaws.{less-trans, less-irrefl}
