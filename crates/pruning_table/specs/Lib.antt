@@ -14,3 +14,4 @@ pub mod RisingLaws
 pub mod ExactLaws
 pub mod AdmissibleLaws
 pub mod Promises
+pub mod MemberLaws

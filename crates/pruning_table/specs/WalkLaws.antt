@@ -15,9 +15,9 @@ use Rattle.generic_cube.specs.Code.{moveOf}
 use Rattle.geometric_moves.specs.Turn.{moved}
 use Rattle.table.specs.Table.{keyAt, numberAt}
 use Rattle.pruning_table.specs.Built.{Entry, entry, add, addAll, nexts, spread, frontier, built, cubes}
-use Rattle.pruning_table.specs.AddLaws.{blank, keyIn, put, all-append, all-length}
+use Rattle.pruning_table.specs.AddLaws.{blank, keyIn, numberIn, put, all-append, all-length}
 use Rattle.pruning_table.specs.Held.{held, Ordered, Grew, Placed, Standing, Walked, visited}
-use Rattle.pruning_table.specs.HeldLaws.{held-key, held-number, numberIn, grew-none, grew-two}
+use Rattle.pruning_table.specs.HeldLaws.{held-key, held-number, grew-none, grew-two}
 
 -- entries of another number, put anywhere, do not count
 module _ (d : ℕ) (x : Entry) (other : x .number ≡ d → ⊥) where
