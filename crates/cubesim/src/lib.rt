@@ -1,15 +1,22 @@
 // The public entries, as C functions: nothing but calls of the crates below, their answers packed into one number.
 ghost use mathlib.Core.Path.{_≡_};
-ghost use Prim.Native.Nat.{ℕ};
+ghost use Prim.Native.Nat.{suc};
 ghost use Rattle.generic_cube.specs.Numbers.{doneNo, answerNo, answerValue, answer};
 ghost use Rattle.generic_cube.specs.AllMoves.{AllMovesResult};
 ghost use Rattle.generic_cube.specs.StickerIndex.{stickerRefusal, stickerIndex};
 ghost use Rattle.facelet_cube.specs.Apply.{ApplyMovesResult};
 ghost use Rattle.facelet_cube.specs.Cube.{verdict, verdictNo, verdictValue, SolvedResult, SolvedIdsResult, MaskResult};
+ghost use Rattle.scramble_parser.specs.Parse.{ParseResult, parsedNo, parsedValue};
+ghost use Rattle.scramble_parser.specs.Write.{WriteResult};
+ghost use Rattle.scramble_parser.specs.Lists.{SimplifyResult, InvertResult};
+ghost use Rattle.pruning_table.specs.Built.{PruningTableResult};
+ghost use Rattle.ida_star.specs.IdaStar.{IdaStarResult, outcomeNo, outcomeValue};
 ghost use Rattle.cubesim.specs.Pack.{pack, Packed};
 use facelet_cube::cube::Verdict;
 use generic_cube::Answer;
 use generic_cube::Done;
+use ida_star::Outcome;
+use scramble_parser::Parsed;
 
 fn pack_of(number: u8, value: usize) -> u64
     ensures { λ r. ⌜ r ≡ pack number value ⌝ }
@@ -46,6 +53,36 @@ fn pack_verdict(a: Verdict) -> u64
         Verdict::Unsolved => pack_of(0, 0),
         Verdict::Refused(k) => pack_of(k, 0),
     }
+}
+
+fn pack_parsed(a: Parsed) -> u64
+    ensures { λ r. ⌜ r ≡ pack (parsedNo a) (parsedValue a) ⌝ }
+{
+    match a {
+        Parsed::Moves(count) => pack_of(0, count),
+        Parsed::Refused(k) => pack_of(k, 0),
+        Parsed::RefusedAt(k, at) => pack_of(k, at),
+    }
+}
+
+// A found list's count goes out as one more, so that 0 says none.
+fn pack_outcome(a: Outcome) -> u64
+    ensures { λ r. ⌜ r ≡ pack (outcomeNo a) (outcomeValue a) ⌝ }
+{
+    match a {
+        Outcome::Found(k) => pack_found(k),
+        Outcome::Nothing => pack_of(0, 0),
+        Outcome::Refused(k) => pack_of(k, 0),
+    }
+}
+
+fn pack_found(k: usize) -> u64
+    ensures { λ r. ⌜ r ≡ pack 0 (suc k) ⌝ }
+{
+    if k < 72057594037927935 {
+        return pack_of(0, k + 1);
+    }
+    pack_of(0, 72057594037927936)
 }
 
 // The solved cube.
@@ -120,4 +157,67 @@ pub extern "C" fn cubesim_all_moves(n: usize, out: &mut [u16]) -> u64
     ensures { λ r. ⌜ Packed answerNo answerValue (AllMovesResult n (now (out .entry)) (now (out .exit))) r ⌝ }
 {
     pack_answer(generic_cube::moves::all_moves(n, out))
+}
+
+// Reads a scramble.
+#[no_mangle]
+pub extern "C" fn cubesim_parse_scramble(n: usize, text: &[u8], out: &mut [u16]) -> u64
+    ensures { λ r. ⌜ Packed parsedNo parsedValue (ParseResult n (now (text .entry)) (now (out .entry)) (now (out .exit))) r ⌝ }
+{
+    pack_parsed(scramble_parser::parse_scramble(n, text, out))
+}
+
+// Writes a list as a scramble.
+#[no_mangle]
+pub extern "C" fn cubesim_write_scramble(n: usize, moves: &[u16], out: &mut [u8]) -> u64
+    ensures { λ r. ⌜ Packed answerNo answerValue (WriteResult n (now (moves .entry)) (now (out .entry)) (now (out .exit))) r ⌝ }
+{
+    pack_answer(scramble_parser::write::write_scramble(n, moves, out))
+}
+
+// Joins neighbours until none join.
+#[no_mangle]
+pub extern "C" fn cubesim_simplify_moves(n: usize, moves: &[u16], out: &mut [u16]) -> u64
+    ensures { λ r. ⌜ Packed answerNo answerValue (SimplifyResult n (now (moves .entry)) (now (out .entry)) (now (out .exit))) r ⌝ }
+{
+    pack_answer(scramble_parser::lists::simplify_moves(n, moves, out))
+}
+
+// The list that undoes a list.
+#[no_mangle]
+pub extern "C" fn cubesim_invert_moves(n: usize, moves: &[u16], out: &mut [u16]) -> u64
+    ensures { λ r. ⌜ Packed answerNo answerValue (InvertResult n (now (moves .entry)) (now (out .entry)) (now (out .exit))) r ⌝ }
+{
+    pack_answer(scramble_parser::lists::invert_moves(n, moves, out))
+}
+
+// A pruning table.
+#[no_mangle]
+pub extern "C" fn cubesim_pruning_table(
+    n: usize,
+    starts: &[u8],
+    moves: &[u16],
+    depth: usize,
+    table: &mut [u8],
+) -> u64
+    ensures { λ r. ⌜ Packed answerNo answerValue (PruningTableResult n (now (starts .entry)) (now (moves .entry)) depth (now (table .entry)) (now (table .exit))) r ⌝ }
+{
+    pack_answer(pruning_table::pruning_table(n, starts, moves, depth, table))
+}
+
+// The search.
+#[no_mangle]
+pub extern "C" fn cubesim_ida_star(
+    n: usize,
+    cube: &[u8],
+    table: &[u8],
+    depth: usize,
+    moves: &[u16],
+    limit: usize,
+    work: &mut [u8],
+    out: &mut [u16],
+) -> u64
+    ensures { λ r. ⌜ Packed outcomeNo outcomeValue (IdaStarResult n (now (cube .entry)) (now (table .entry)) depth (now (moves .entry)) limit (now (work .entry)) (now (work .exit)) (now (out .entry)) (now (out .exit))) r ⌝ }
+{
+    pack_outcome(ida_star::ida_star(n, cube, table, depth, moves, limit, work, out))
 }

@@ -1,20 +1,19 @@
 -- Laws of lists that are stored in order by loops, and the lengths of all moves.
-use Prim.Native.Nat.{ℕ, zero, suc, _+_, _-_, _*_, _/_, _<_, _≤_}
+use Prim.Native.Nat.{ℕ, zero, suc, _+_, _*_, _/_, _<_, _≤_}
 use mathlib.Core.Path.{_≡_, refl, sym, ap, subst, _∙_}
 use mathlib.Core.Bool.{Bool, true, false, not, true≢false}
 use mathlib.Core.List.{List, [], _∷_, _++_, append-assoc, append-nil}
 use native.Mathlib.Omega.{arith}
 use native.Mathlib.Numerals.{add-one}
-use native.Mathlib.Nat.{mul-le-mul-right, suc-mul, zero-add, add-zero, add-suc}
-use lib.Dec.{eqb, ltb}
-use lib.ListN.{length, getD, take, drop, set, length-append, length-set}
+use native.Mathlib.Nat.{mul-le-mul-right, suc-mul, zero-add, add-zero}
+use lib.Dec.{ltb}
+use lib.ListN.{length, getD, take, drop, set, length-append, take-append-drop}
 use lib.Seq.{sets, sets-eq, length-sets, take-suc, take-all, length-take-le}
-use borrow.Author.Tests.{ltb-false, ltb-true}
-use Rattle.ground.specs.Choice.{pick, bool-cases, any}
+use borrow.Author.Tests.{ltb-false, ltb-true, not-false}
+use Rattle.ground.specs.Choice.{bool-cases, any, any-none}
 use Rattle.generic_cube.specs.Numbers.{sized}
 use Rattle.generic_cube.specs.CodeLaws.{sized-bounds}
 use Rattle.generic_cube.specs.AllMoves.{each, upFrom, movesOf, faceKinds, wideKinds, allMoves, allRefusal, allOut, AllMovesResult}
-use Rattle.generic_cube.specs.declared.Answer.{Answer}
 use Rattle.generic_cube.specs.declared.Answer.the-variants.{Value}
 
 -- `new` is `out` with the list vs stored from j on, and r is the place behind it
@@ -35,16 +34,29 @@ put-then {out} {mid} {new} {vs} {ws} {j} {r} {s} p q =
           ∙ sym (sets-append vs ws out j);
     }
 
+pub put-none : {out : List ℕ} {j : ℕ} → Put out j [] out j
+put-none {out} {j} = record { next = sym (add-zero j); stored = refl }
+
 pub put-one : {out : List ℕ} {j v x : ℕ} → v ≡ x → Put out j (x ∷ []) (set out j v) (j + 1)
 put-one {out} {j} {v} e = record { next = refl; stored = ap (set out j) e }
 
 pub put-length : {out new vs : List ℕ} {j r : ℕ} → Put out j vs new r → length new ≡ length out
 put-length {out} {new} {vs} {j} p = ap length (p .stored) ∙ length-sets out j vs
 
+-- what is left of the room
+pub put-room : {out new vs : List ℕ} {j r : ℕ} (m : ℕ) → Put out j vs new r → j + (length vs + m) ≤ length out → r + m ≤ length new
+put-room m p h = let e = p .next in let l = put-length p in omega arith
+
 each-append : (xs ys : List ℕ) (f : ℕ → List ℕ) → each (xs ++ ys) f ≡ each xs f ++ each ys f
 unfolding each
 each-append [] ys f = refl
 each-append (x ∷ xs) ys f = rw (each-append xs ys f) (sym (append-assoc (f x) (each xs f) (each ys f)))
+
+-- one element for each, itself
+pub each-self : (xs : List ℕ) → each xs (λ x. x ∷ []) ≡ xs
+unfolding each
+each-self [] = refl
+each-self (x ∷ xs) = ap (λ (l : List ℕ). x ∷ l) (each-self xs)
 
 -- `c` codes for each element
 pub length-each : (xs : List ℕ) (f : ℕ → List ℕ) (c : ℕ) → ((x : ℕ) → length (f x) ≡ c) → length (each xs f) ≡ length xs * c
@@ -70,6 +82,21 @@ turn-at (suc zero) h = refl
 turn-at (suc (suc zero)) h = refl
 turn-at (suc (suc (suc t))) h = absurd (omega arith)
 
+-- one element on, and never more than all
+module _ (xs : List ℕ) (f : ℕ → List ℕ) (i : ℕ) where
+  pub each-upto : i < length xs → length (each (take (i + 1) xs) f) ≡ length (each (take i xs) f) + length (f (getD xs i 0))
+  unfolding each
+  each-upto h =
+      rw (add-one i, take-suc xs i 0 h, each-append (take i xs) (getD xs i 0 ∷ []) f, append-nil)
+      (length-append (each (take i xs) f) (f (getD xs i 0)))
+
+  pub each-most : length (each (take i xs) f) ≤ length (each xs f)
+  each-most =
+      let e : length (each xs f) ≡ length (each (take i xs) f) + length (each (drop i xs) f)
+      = ap (λ (l : List ℕ). length (each l f)) (sym (take-append-drop i xs))
+      ∙ ap length (each-append (take i xs) (drop i xs) f) ∙ length-append (each (take i xs) f) (each (drop i xs) f) in
+      omega arith
+
 -- the first i elements of a loop over xs are done, from place j of out₀ on; r is where the next goes
 pub record Looped (out₀ : List ℕ) (j : ℕ) (xs : List ℕ) (f : ℕ → List ℕ) (i : ℕ) (out : List ℕ) (r : ℕ) : Type 0 where
   pub most : i ≤ length xs
@@ -78,7 +105,7 @@ pub record Looped (out₀ : List ℕ) (j : ℕ) (xs : List ℕ) (f : ℕ → Lis
 module _ {out₀ : List ℕ} {j : ℕ} {xs : List ℕ} {f : ℕ → List ℕ} where
   pub loop-none : Looped out₀ j xs f 0 out₀ j
   unfolding each
-  loop-none = record { most = omega arith; put = record { next = sym (add-zero j); stored = refl } }
+  loop-none = record { most = omega arith; put = put-none }
 
   pub loop-more : {i x : ℕ} {out new : List ℕ} {r s : ℕ} → Looped out₀ j xs f i out r → i < length xs → x ≡ getD xs i 0
       → Put out r (f x) new s → Looped out₀ j xs f (i + 1) new s
@@ -93,6 +120,11 @@ module _ {out₀ : List ℕ} {j : ℕ} {xs : List ℕ} {f : ℕ → List ℕ} wh
   loop-all {i} {out} {r} l h = subst (λ (v : List ℕ). Put out₀ j (each v f) out r) (take-all i xs h) (l .put)
 
   -- there is room for the next, where there is for all
+  pub loop-fits : {i : ℕ} {out : List ℕ} {r : ℕ} → j + length (each xs f) ≤ length out₀ → Looped out₀ j xs f i out r → i < length xs
+      → r + length (f (getD xs i 0)) ≤ length out
+  loop-fits {i} {out} {r} room l h =
+      omega (arith, l .put .next, put-length (l .put), each-upto xs f i h, each-most xs f (i + 1))
+
   pub loop-room : (c : ℕ) {i : ℕ} {out : List ℕ} {r : ℕ} → ((x : ℕ) → length (f x) ≡ c) → j + length xs * c ≤ length out₀
       → Looped out₀ j xs f i out r → i < length xs → r + c ≤ length out
   loop-room c {i} {out} {r} u room l h =
@@ -139,12 +171,18 @@ all-room n room e =
     (λ s. let z : _≡_ {A = ℕ} 1 0 = rw s at e in absurd (omega arith))
 
 -- a test that holds of each element holds at each place, past the end too where it holds of 0
-all-at : (p : ℕ → Bool) (xs : List ℕ) → any (λ x. not (p x)) xs ≡ false → p 0 ≡ true → (i : ℕ) → p (getD xs i 0) ≡ true
+pub all-at : (p : ℕ → Bool) (xs : List ℕ) → any (λ x. not (p x)) xs ≡ false → p 0 ≡ true → (i : ℕ) → p (getD xs i 0) ≡ true
 unfolding any
 all-at p [] e z i = z
 all-at p (x ∷ xs) e z zero = bool-cases (p x) (λ t. t) (λ t. absurd (true≢false (rw t at e)))
 all-at p (x ∷ xs) e z (suc i) =
     all-at p xs (bool-cases (p x) (λ t. rw t at e) (λ t. absurd (true≢false (rw t at e)))) z i
+
+-- a test that holds of each number below m
+pub all-below : (p : ℕ → Bool) (m : ℕ) → any (λ x. not (p x)) (upFrom 0 m) ≡ false → (i : ℕ) → i < m → p i ≡ true
+all-below p m e i h =
+    let g : getD (upFrom 0 m) i 0 ≡ i = getD-from 0 m i h ∙ zero-add i in
+    not-false (p i) (rw g at (any-none (λ x. not (p x)) (upFrom 0 m) e i (rw length-from h)))
 
 pub faces-fair : Kinds faceKinds
 unfolding any

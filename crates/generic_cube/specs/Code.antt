@@ -1,8 +1,8 @@
 -- Move codes, and the refusals of a code and of a list of them.
 use Prim.Native.Nat.{ℕ, _+_, _*_, _/_, _%_}
 use mathlib.Core.Bool.{Bool, true, false}
-use mathlib.Core.List.{List, [], _∷_}
-use lib.Dec.{ltb, leb, eqb}
+use mathlib.Core.List.{List}
+use lib.Dec.{ltb, eqb}
 use Rattle.ground.specs.Choice.{pick, any}
 use Rattle.generic_cube.specs.declared.Move.{Move}
 use Rattle.generic_cube.specs.declared.Code.{Code}
@@ -31,13 +31,24 @@ badCode m =
 unfoldable pub readCode : ℕ → Code
 readCode c = pick (badCode (moveOf c)) (Refused 3) (Taken (moveOf c))
 
--- 5: a wide width is 1 to n
-unfoldable pub badWidth : ℕ → Move → Bool
-badWidth n m = pick (isWide (m .kind)) (pick (eqb (m .width) 0) true (ltb n (m .width))) false
+-- 5: a width is outside its range, low to high
+unfoldable pub outside : ℕ → ℕ → ℕ → Bool
+outside low high w = pick (ltb w low) true (ltb high w)
+
+abbrev pub badWidthIn : ℕ → ℕ → Move → Bool
+badWidthIn low high m = pick (isWide (m .kind)) (outside low high (m .width)) false
 
 -- the refusal of a list, the lowest that applies anywhere in it; 0 for none
+unfoldable pub refusalIn : ℕ → ℕ → List ℕ → ℕ
+refusalIn low high cs =
+    pick (any (λ c. badCode (moveOf c)) cs) 3 (pick (any (λ c. badWidthIn low high (moveOf c)) cs) 5 0)
+
+-- a wide width is 1 to n for applying, simplifying, inverting and searching
+unfoldable pub badWidth : ℕ → Move → Bool
+badWidth n m = badWidthIn 1 n m
+
 unfoldable pub listRefusal : ℕ → List ℕ → ℕ
-listRefusal n cs = pick (any (λ c. badCode (moveOf c)) cs) 3 (pick (any (λ c. badWidth n (moveOf c)) cs) 5 0)
+listRefusal n cs = refusalIn 1 n cs
 
 -- the search's rule: no two neighbours have the same kind
 unfoldable pub barred : ℕ → ℕ → Bool

@@ -1,7 +1,7 @@
 // Sizes, move codes and lists of them: generic_cube.rs.
 ghost use mathlib.Core.Path.{_≡_};
 ghost use Rattle.generic_cube.specs.Numbers.{sized, small, beyond};
-ghost use Rattle.generic_cube.specs.Code.{isWide, badWidth, readCode, listRefusal};
+ghost use Rattle.generic_cube.specs.Code.{isWide, badWidthIn, outside, readCode, refusalIn, listRefusal};
 
 pub mod moves;
 pub mod stickers;
@@ -97,24 +97,31 @@ pub fn read_code(code: u16) -> Code
     Code::Taken(Move { kind, width, turn })
 }
 
-// Whether a move is wide and its width is not 1 to n.
-fn is_bad_width(n: usize, m: Move) -> bool
-    ensures { λ r. ⌜ r ≡ badWidth n m ⌝ }
+// Whether a width is outside the range low to high.
+pub fn is_outside(low: usize, high: usize, width: usize) -> bool
+    ensures { λ r. ⌜ r ≡ outside low high width ⌝ }
+{
+    if width < low {
+        return true;
+    }
+    high < width
+}
+
+// Whether a move is wide and its width is not low to high.
+fn is_bad_width(low: usize, high: usize, m: Move) -> bool
+    ensures { λ r. ⌜ r ≡ badWidthIn low high m ⌝ }
 {
     let kind = m.kind;
     let width = m.width;
     if is_wide(kind) {
-        if width == 0 {
-            return true;
-        }
-        return n < width;
+        return is_outside(low, high, width);
     }
     false
 }
 
-// The lowest refusal in a list, 0 for none: 3 anywhere beats 5 anywhere.
-pub fn list_refusal(n: usize, list: &[u16]) -> u8
-    ensures { λ r. ⌜ r ≡ listRefusal n (now (list .entry)) ⌝ }
+// The lowest refusal in a list whose wide widths are low to high, 0 for none: 3 anywhere beats 5 anywhere.
+pub fn refusal_in(low: usize, high: usize, list: &[u16]) -> u8
+    ensures { λ r. ⌜ r ≡ refusalIn low high (now (list .entry)) ⌝ }
 {
     let mut number: u8 = 0;
     let mut i = 0;
@@ -122,10 +129,17 @@ pub fn list_refusal(n: usize, list: &[u16]) -> u8
         let Code::Taken(m) = read_code(list[i]) else {
             return 3;
         };
-        if is_bad_width(n, m) {
+        if is_bad_width(low, high, m) {
             number = 5;
         }
         i += 1;
     }
     number
+}
+
+// The refusal of a list that is applied, simplified, inverted or searched with.
+pub fn list_refusal(n: usize, list: &[u16]) -> u8
+    ensures { λ r. ⌜ r ≡ listRefusal n (now (list .entry)) ⌝ }
+{
+    refusal_in(1, n, list)
 }

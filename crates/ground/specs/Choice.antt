@@ -3,7 +3,7 @@ use Prim.Native.Nat.{ℕ, zero, suc, _+_, _<_, _≤_}
 use mathlib.Core.Path.{_≡_, refl, ap, sym, _∙_}
 use mathlib.Core.Bool.{Bool, true, false, true≢false}
 use mathlib.Core.Logic.{⊎-elim}
-use mathlib.Core.List.{List, [], _∷_, List·Memᴰ, List·Memᴰ·not-nil, List·Memᴰ·cases-cons}
+use mathlib.Core.List.{List, [], _∷_, _++_, List·Memᴰ, List·Memᴰ·not-nil, List·Memᴰ·cases-cons}
 use native.Mathlib.Numerals.{add-one}
 use native.Mathlib.Omega.{arith}
 use native.Mathlib.Nat.{eq-or-lt-of-le}
@@ -71,6 +71,14 @@ any-none p (x ∷ xs) e zero h = bool-cases (p x) (λ t. absurd (true≢false (r
 any-none p (x ∷ xs) e (suc i) h =
     any-none p xs (bool-cases (p x) (λ t. absurd (true≢false (rw t at e))) (λ t. rw t at e)) i (omega arith)
 
+pub any-append : (p : ℕ → Bool) (xs ys : List ℕ) → any p xs ≡ false → any p ys ≡ false → any p (xs ++ ys) ≡ false
+unfolding any
+any-append p [] ys e d = d
+any-append p (x ∷ xs) ys e d =
+    bool-cases (p x)
+    (λ t. absurd (true≢false (rw t at e)))
+    (λ t. rw t (any-append p xs ys (rw t at e) d))
+
 -- the same for a place that is looked for
 module _ (b : ℕ) (xs : List ℕ) (i : ℕ) where
   pub position-here : i < length xs → getD xs i 0 ≡ b → position b (drop i xs) ≡ 0
@@ -91,6 +99,15 @@ position-most b [] = omega arith
 position-most b (x ∷ xs) =
     bool-cases (eqb x b) (λ t. rw t (omega arith)) (λ t. rw t (omega (arith, position-most b xs)))
 
+-- what stands at the place that was found
+pub position-found : (b : ℕ) (xs : List ℕ) → position b xs < length xs → getD xs (position b xs) 0 ≡ b
+unfolding position
+position-found b [] h = absurd (omega arith)
+position-found b (x ∷ xs) h =
+    bool-cases (eqb x b)
+    (λ t. rw t (eqb-true x b t))
+    (λ t. rw t (position-found b xs (let k = rw t at h in omega arith)))
+
 -- a list's head is at place 0, any other element one place further than in its tail
 pub position-cases {ℓ} : {A : Type ℓ} (b x : ℕ) (xs : List ℕ) → (x ≡ b → position b (x ∷ xs) ≡ 0 → A)
     → (position b (x ∷ xs) ≡ suc (position b xs) → A) → A
@@ -101,16 +118,17 @@ pub position-head : (x : ℕ) (xs : List ℕ) → position x (x ∷ xs) ≡ 0
 unfolding position
 position-head x xs = rw (eq-eqb x x refl)
 
--- what stands at an element's place is that element, so that elements at one place are one
-pub getD-position : (b : ℕ) (xs : List ℕ) → List·Memᴰ b xs → getD xs (position b xs) 0 ≡ b
+-- an element has its place in the list, and elements at one place are one
+pub position-below : (b : ℕ) (xs : List ℕ) → List·Memᴰ b xs → position b xs < length xs
 unfolding position
-getD-position b [] m = absurd (List·Memᴰ·not-nil m)
-getD-position b (x ∷ xs) m =
-    bool-cases (eqb x b) (λ t. rw t (eqb-true x b t))
-    (λ t. rw t (getD-position b xs (⊎-elim (λ e. absurd (eqb-false x b t (sym e))) (λ w. w) (List·Memᴰ·cases-cons m))))
+position-below b [] m = absurd (List·Memᴰ·not-nil m)
+position-below b (x ∷ xs) m =
+    bool-cases (eqb x b) (λ t. rw t (omega arith))
+    (λ t. rw t (⊎-elim (λ e. absurd (eqb-false x b t (sym e))) (λ w. omega (arith, position-below b xs w)) (List·Memᴰ·cases-cons m)))
 
 pub position-one : (a b : ℕ) (xs : List ℕ) → List·Memᴰ a xs → List·Memᴰ b xs → position a xs ≡ position b xs → a ≡ b
-position-one a b xs ma mb e = sym (getD-position a xs ma) ∙ ap (λ i. getD xs i 0) e ∙ getD-position b xs mb
+position-one a b xs ma mb e =
+    sym (position-found a xs (position-below a xs ma)) ∙ ap (λ i. getD xs i 0) e ∙ position-found b xs (position-below b xs mb)
 
 -- whether the test holds of a number below m
 unfoldable pub anyBelow : (ℕ → Bool) → ℕ → Bool

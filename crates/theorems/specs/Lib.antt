@@ -1,3 +1,11 @@
 pub mod Signed
 pub mod PieceMap
 pub mod Rotations
+pub mod Kept
+pub mod Simplified
+pub mod RoundTrip
+pub mod Spelled
+pub mod Effects
+pub mod Cases
+pub mod Solving
+pub mod OneAnswer

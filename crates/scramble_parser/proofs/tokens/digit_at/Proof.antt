@@ -1,0 +1,30 @@
+use borrow.Author.Tests.{lt-ltb, le-ltb}
+use Rattle.scramble_parser.specs.Token.{digitOf}
+use native.Mathlib.Omega.{arith}
+use borrow.Author.Needs.{needs}
+use Rattle.scramble_parser.proofs.tokens.digit_at.Statement.{statement}
+use Rattle.scramble_parser.proofs.tokens.digit_at.Tie as tie
+
+at-requires : tie.Need-at-requires
+at-requires c κs = search needs
+
+returns : tie.Need-returns
+unfolding digitOf
+returns c = (simp (← (c .before .at .ensures), lt-ltb _ _ (c .if1 .taken)), omega arith)
+
+returns-2 : tie.Need-returns-2
+unfolding digitOf
+returns-2 c = (simp (← (c .before .before .at .ensures), le-ltb _ _ (c .before .if1 .left), lt-ltb _ _ (c .if2 .taken)), omega arith)
+
+cast-result : tie.Need-cast-result
+cast-result c = search needs
+
+sub-result : tie.Need-sub-result
+sub-result c = search needs
+
+returns-3 : tie.Need-returns-3
+unfolding digitOf
+returns-3 c = (simp (← (c .before .before .at .ensures), le-ltb _ _ (c .before .if1 .left), le-ltb _ _ (c .if2 .left)), omega arith)
+
+pub digit-at-spec : {M : Type 1} → statement M
+digit-at-spec = tie.close (tie.spec at-requires returns returns-2 cast-result sub-result returns-3)

@@ -1,0 +1,10 @@
+pub mod Token
+pub mod Words
+pub mod Parse
+pub mod ParseLaws
+pub mod Room
+pub mod Lists
+pub mod SimplifyLaws
+pub mod ListLaws
+pub mod Write
+pub mod WriteLaws

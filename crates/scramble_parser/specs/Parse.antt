@@ -1,0 +1,63 @@
+-- What a text reads as, and what `parse_scramble` answers and leaves in its output.
+use Prim.Native.Nat.{ℕ}
+use mathlib.Core.Path.{_≡_}
+use mathlib.Core.List.{List, [], _∷_, _++_}
+use lib.ListN.{length, drop}
+use lib.Dec.{ltb}
+use Rattle.ground.specs.Choice.{pick}
+use Rattle.generic_cube.specs.Numbers.{sized}
+use Rattle.scramble_parser.specs.Token.{readToken}
+use Rattle.scramble_parser.specs.Words.{Run, wordsFrom}
+use Rattle.scramble_parser.specs.declared.Token.{Token}
+use Rattle.scramble_parser.specs.declared.Token.the-variants.{Is, Not}
+use Rattle.scramble_parser.specs.declared.Parsed.{Parsed}
+use Rattle.scramble_parser.specs.declared.Parsed.the-variants.{Moves, Refused, RefusedAt}
+
+-- the codes of a text, or the number of its first bad token (4 or 5) and the byte offset of the token's start
+pub data Reading : Type 0 where
+  codes : List ℕ → Reading
+  bad : ℕ → ℕ → Reading
+
+-- a token at `at` in front of what follows it: a bad one wins over all that follows
+abbrev pub ahead : Token → ℕ → Reading → Reading
+ahead (Not k) at r = bad k at
+ahead (Is c) at (codes cs) = codes (c ∷ cs)
+ahead (Is c) at (bad k a) = bad k a
+
+unfoldable pub reading : ℕ → List Run → Reading
+reading n [] = codes []
+reading n (w ∷ ws) = ahead (readToken n (w .bytes)) (w .start) (reading n ws)
+
+-- 6: the output is too short; it comes after any bad token
+abbrev pub answerOf : ℕ → Reading → Parsed
+answerOf room (bad k at) = RefusedAt k at
+answerOf room (codes cs) = pick (ltb room (length cs)) (Refused 6) (Moves (length cs))
+
+-- the codes fill the first slots, what lies past them stays
+abbrev pub filledBy : List ℕ → Reading → List ℕ
+filledBy out (bad k at) = out
+filledBy out (codes cs) = pick (ltb (length out) (length cs)) out (cs ++ drop (length cs) out)
+
+-- 1: the size, before all else
+unfoldable pub parseAnswer : ℕ → List ℕ → ℕ → Parsed
+parseAnswer n text room = pick (sized n) (answerOf room (reading n (wordsFrom text 0))) (Refused 1)
+
+unfoldable pub parseOut : ℕ → List ℕ → List ℕ → List ℕ
+parseOut n text out = pick (sized n) (filledBy out (reading n (wordsFrom text 0))) out
+
+-- what `parse_scramble` answers and leaves in its output
+pub record ParseResult (n : ℕ) (text out out′ : List ℕ) (r : Parsed) : Type 0 where
+  pub answered : r ≡ parseAnswer n text (length out)
+  pub written : out′ ≡ parseOut n text out
+
+-- document 01's number of each case, 0 where nothing is refused
+abbrev pub parsedNo : Parsed → ℕ
+parsedNo (Moves count) = 0
+parsedNo (Refused k) = k
+parsedNo (RefusedAt k at) = k
+
+-- and its value: the count, or the place of a bad token, else 0
+abbrev pub parsedValue : Parsed → ℕ
+parsedValue (Moves count) = count
+parsedValue (Refused k) = 0
+parsedValue (RefusedAt k at) = at

@@ -1,0 +1,101 @@
+// The scramble reader and writer, and lists of codes: scramble_parser.rs.
+ghost use mathlib.Core.Path.{_≡_};
+ghost use mathlib.Core.Bool.{true};
+ghost use Prim.Native.Nat.{_≤_};
+ghost use lib.ListN.{length};
+ghost use lib.Seq.{sets};
+ghost use Rattle.generic_cube.specs.Numbers.{sized};
+ghost use Rattle.scramble_parser.specs.Words.{wordsFrom};
+ghost use Rattle.scramble_parser.specs.Parse.{reading, ParseResult};
+ghost use Rattle.scramble_parser.specs.ParseLaws.{tally, prefix};
+
+pub mod lists;
+pub mod tokens;
+pub mod words;
+pub mod write;
+
+// What a text reads as: how many moves, or the number of a refusal, for a bad token with the place where it starts.
+pub enum Parsed {
+    Moves(usize),
+    Refused(u8),
+    RefusedAt(u8, usize),
+}
+
+// A token's answer: the code of a move, or the number of a refusal.
+pub enum Token {
+    Is(u16),
+    Not(u8),
+}
+
+// A suffix: its turn, and how many bytes it takes.
+pub struct Mark {
+    pub turn: usize,
+    pub size: usize,
+}
+
+// What follows a place of the text: a word, or nothing more.
+pub enum Next {
+    End,
+    Word { start: usize, end: usize },
+}
+
+// Reads the whole text and counts its moves, or finds its first bad token.
+fn count_moves(n: usize, text: &[u8]) -> Parsed
+    requires { ⌜ sized n ≡ true ⌝ }
+    ensures { λ r. ⌜ r ≡ tally 0 (reading n (wordsFrom (now (text .entry)) 0)) ⌝ }
+{
+    let mut i = 0;
+    let mut count: usize = 0;
+    loop {
+        let Next::Word { start, end } = words::next_word(text, i) else {
+            return Parsed::Moves(count);
+        };
+        match tokens::read_token(n, &text[start..end]) {
+            Token::Is(_) => {
+                count += 1;
+                i = end;
+            }
+            Token::Not(number) => {
+                return Parsed::RefusedAt(number, start);
+            }
+        }
+    }
+}
+
+// Writes the moves of the text, up to the first word that is none.
+fn write_moves(n: usize, text: &[u8], out: &mut [u16])
+    requires { ⌜ (sized n ≡ true) × (length (prefix n (wordsFrom (now text) 0)) ≤ length (now out)) ⌝ }
+    ensures { λ r. ⌜ now (out .exit) ≡ sets (now (out .entry)) 0 (prefix n (wordsFrom (now (text .entry)) 0)) ⌝ }
+{
+    let mut i = 0;
+    let mut j: usize = 0;
+    loop {
+        let Next::Word { start, end } = words::next_word(text, i) else {
+            return;
+        };
+        let Token::Is(code) = tokens::read_token(n, &text[start..end]) else {
+            return;
+        };
+        out[j] = code;
+        j += 1;
+        i = end;
+    }
+}
+
+// Reads a text as moves. Nothing is written before all is known.
+pub fn parse_scramble(n: usize, text: &[u8], out: &mut [u16]) -> Parsed
+    ensures { λ r. ⌜ ParseResult n (now (text .entry)) (now (out .entry)) (now (out .exit)) r ⌝ }
+{
+    if generic_cube::is_size(n) {
+        let r = count_moves(n, text);
+        let Parsed::Moves(count) = r else {
+            return r;
+        };
+        if out.len() < count {
+            return Parsed::Refused(6);
+        }
+        write_moves(n, text, out);
+        return Parsed::Moves(count);
+    }
+    Parsed::Refused(1)
+}

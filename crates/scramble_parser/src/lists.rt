@@ -1,0 +1,105 @@
+ghost use mathlib.Core.Path.{_≡_};
+ghost use Prim.Native.Nat.{_<_, _≤_, _%_};
+ghost use lib.ListN.{length};
+ghost use lib.Seq.{sets};
+ghost use Rattle.scramble_parser.specs.Lists.{Turned, inverseOf, inverse, sameRefusal, SimplifyResult, InvertResult};
+ghost use Rattle.scramble_parser.specs.SimplifyLaws.{Pushable, Pushed, Shrunk};
+use generic_cube::Answer;
+
+// The refusal of a list whose answer needs as much room as itself, 0 for none.
+fn same_refusal(n: usize, list: &[u16], room: usize) -> u8
+    ensures { λ r. ⌜ r ≡ sameRefusal n (now (list .entry)) room ⌝ }
+{
+    if generic_cube::is_size(n) {
+        let number = generic_cube::list_refusal(n, list);
+        if number != 0 {
+            return number;
+        }
+        if room < list.len() {
+            return 6;
+        }
+        return 0;
+    }
+    1
+}
+
+// One more code on a stack in which nothing joins, the first k of `out`.
+fn push(out: &mut [u16], k: usize, code: u16) -> usize
+    requires { ⌜ Pushable (now out) k code ⌝ }
+    ensures { λ r. ⌜ Pushed (now (out .entry)) k code (now (out .exit)) r ⌝ }
+{
+    if k == 0 {
+        out[k] = code;
+        return k + 1;
+    }
+    let top = out[k - 1];
+    if top / 4 != code / 4 {
+        out[k] = code;
+        return k + 1;
+    }
+    let turn = (top % 4 + code % 4) % 4;
+    if turn == 0 {
+        return k - 1;
+    }
+    out[k - 1] = top / 4 * 4 + turn;
+    k
+}
+
+// The simplified list at the front of `out`.
+fn stack(list: &[u16], out: &mut [u16]) -> usize
+    requires { ⌜ (length (now list) ≤ length (now out)) × Turned (now list) ⌝ }
+    ensures { λ r. ⌜ Shrunk (now (list .entry)) (now (out .entry)) (now (out .exit)) r ⌝ }
+{
+    let mut k: usize = 0;
+    let mut i = 0;
+    while i < list.len() {
+        k = push(out, k, list[i]);
+        i += 1;
+    }
+    k
+}
+
+// Joins neighbours until none join.
+pub fn simplify_moves(n: usize, list: &[u16], out: &mut [u16]) -> Answer
+    ensures { λ r. ⌜ SimplifyResult n (now (list .entry)) (now (out .entry)) (now (out .exit)) r ⌝ }
+{
+    let number = same_refusal(n, list, out.len());
+    if number != 0 {
+        return Answer::Refused(number);
+    }
+    let count = stack(list, out);
+    let end = list.len();
+    ground::words::clear(&mut out[count..end]);
+    Answer::Value(count)
+}
+
+// The turn t becomes 4 - t.
+fn inverse_code(code: u16) -> u16
+    requires { ⌜ 0 < code % 4 ⌝ }
+    ensures { λ r. ⌜ r ≡ inverseOf code ⌝ }
+{
+    code / 4 * 4 + (4 - code % 4)
+}
+
+fn invert_into(list: &[u16], out: &mut [u16])
+    requires { ⌜ (length (now list) ≤ length (now out)) × Turned (now list) ⌝ }
+    ensures { λ r. ⌜ now (out .exit) ≡ sets (now (out .entry)) 0 (inverse (now (list .entry))) ⌝ }
+{
+    let mut j = 0;
+    while j < list.len() {
+        out[j] = inverse_code(list[list.len() - 1 - j]);
+        j += 1;
+    }
+}
+
+// The moves that undo a list's.
+pub fn invert_moves(n: usize, list: &[u16], out: &mut [u16]) -> Answer
+    ensures { λ r. ⌜ InvertResult n (now (list .entry)) (now (out .entry)) (now (out .exit)) r ⌝ }
+{
+    let number = same_refusal(n, list, out.len());
+    if number != 0 {
+        return Answer::Refused(number);
+    }
+    invert_into(list, out);
+    Answer::Value(list.len())
+}

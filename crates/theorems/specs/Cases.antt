@@ -1,0 +1,58 @@
+-- Document 01's cases for every station that are to be proved, together, as a single statement over the definitions.
+use Prim.Native.Nat.{ℕ}
+use mathlib.Core.Path.{_≡_, refl}
+use mathlib.Core.List.{List, [], _∷_}
+use Rattle.ground.specs.Choice.{position, any, pick}
+use Rattle.ground.specs.Fill.{tabulate}
+use Rattle.generic_cube.specs.declared.Answer.{Answer}
+use Rattle.generic_cube.specs.declared.Answer.the-variants.{Value}
+use Rattle.generic_cube.specs.Numbers.{sized, answer}
+use Rattle.generic_cube.specs.Code.{codeOf, outside}
+use Rattle.generic_cube.specs.StickerIndex.{stickerRefusal, stickerIndex}
+use Rattle.geometric_moves.specs.Turn.{sameFace, whither, inverseRot, turnOf, quarterOf, kindFace, widthOf, layer, target, source, moved, run}
+use Rattle.scramble_parser.specs.declared.Parsed.{Parsed}
+use Rattle.scramble_parser.specs.declared.Parsed.the-variants.{Moves, RefusedAt}
+use Rattle.scramble_parser.specs.Token.{isSpace, letterOf, isFace, plainKind, markOf, digitOf, isDigit, digitsOf, numberOf, plainOf, wideOf, startsWide, readToken}
+use Rattle.scramble_parser.specs.Words.{words}
+use Rattle.scramble_parser.specs.Parse.{reading, parseAnswer}
+use Rattle.scramble_parser.specs.Lists.{push, simplify}
+
+pub record Cases : Type 0 where
+  -- codes R2 14, Uw 153, 10Dw 685
+  pub r2 : codeOf (record { kind = 3; width = 0; turn = 2 }) ≡ 14
+  pub uw : codeOf (record { kind = 6; width = 2; turn = 1 }) ≡ 153
+  pub dw10 : codeOf (record { kind = 11; width = 10; turn = 1 }) ≡ 685
+  -- size 1, `U` turns URFDLB into UBRDFL
+  pub size-1 : run 1 (1 ∷ []) (85 ∷ 82 ∷ 70 ∷ 68 ∷ 76 ∷ 66 ∷ []) ≡ 85 ∷ 66 ∷ 82 ∷ 68 ∷ 70 ∷ 76 ∷ []
+  -- sticker index size 3, F, 1 is 18; index 10 is refused (10)
+  pub f-1 : answer (stickerRefusal 3 70 1) (stickerIndex 3 70 1) ≡ Value 18
+  pub f-10 : answer (stickerRefusal 3 70 10) (stickerIndex 3 70 10) ≡ Answer.Refused 10
+  -- simplify U U to U2; R U U' R to R2; U D U' and 2Uw 3Uw (n=4) unchanged
+  pub u-u : simplify (1 ∷ 1 ∷ []) ≡ 2 ∷ []
+  pub r-u-u′-r : simplify (13 ∷ 1 ∷ 3 ∷ 13 ∷ []) ≡ 14 ∷ []
+  pub u-d-u′ : simplify (1 ∷ 21 ∷ 3 ∷ []) ≡ 1 ∷ 21 ∷ 3 ∷ []
+  pub uw-2-3 : simplify (153 ∷ 217 ∷ []) ≡ 153 ∷ 217 ∷ []
+  -- n=4: `4Uw` is 5, `02Uw` is 4; n=2: `Uw` is 5; empty text gives an empty list; the room for a move changes none of these
+  pub width-4 : parseAnswer 4 (52 ∷ 85 ∷ 119 ∷ []) 1 ≡ RefusedAt 5 0
+  pub zero-first : parseAnswer 4 (48 ∷ 50 ∷ 85 ∷ 119 ∷ []) 1 ≡ RefusedAt 4 0
+  pub uw-on-2 : parseAnswer 2 (85 ∷ 119 ∷ []) 1 ≡ RefusedAt 5 0
+  pub empty : parseAnswer 3 [] 0 ≡ Moves 0
+
+pub cases : Cases
+unfolding sized position any tabulate stickerRefusal stickerIndex sameFace whither inverseRot turnOf quarterOf kindFace widthOf layer target source moved run outside isSpace letterOf isFace plainKind markOf digitOf isDigit digitsOf numberOf plainOf wideOf startsWide readToken words reading parseAnswer push simplify
+cases = record {
+  r2 = refl;
+  uw = refl;
+  dw10 = refl;
+  size-1 = refl;
+  f-1 = refl;
+  f-10 = refl;
+  u-u = refl;
+  r-u-u′-r = refl;
+  u-d-u′ = refl;
+  uw-2-3 = refl;
+  width-4 = refl;
+  zero-first = refl;
+  uw-on-2 = refl;
+  empty = refl;
+}

@@ -1,0 +1,107 @@
+//! Where the crate and the rules part: for each line of docs/DIFFERENCES.md its smallest input, what the crate answers and what is answered here.
+use crate::crate_side::{code, codes, ids, letters, mv, mvs};
+use cubesim::prelude::{Cube, FaceletCube};
+use cubesim_proved::Refusal;
+use std::panic::catch_unwind;
+
+fn crate_reads(text: &str) -> Option<Vec<u16>> {
+    let owned = text.to_string();
+    catch_unwind(|| codes(&cubesim::parse_scramble(owned))).ok()
+}
+
+fn ours_reads(n: usize, text: &str) -> Result<Vec<u16>, Refusal> {
+    let mut out = vec![0u16; text.len()];
+    cubesim_proved::parse_scramble(n, text.as_bytes(), &mut out).map(|count| out[..count].to_vec())
+}
+
+/// A text, the crate's reading (none: it panics), a size, and the reading here.
+fn notation() -> usize {
+    const W: fn(u16, u16, u16) -> u16 = cubesim_proved::code;
+    let not = |at| Err(Refusal::Token(at));
+    let wide = |at| Err(Refusal::Width(Some(at)));
+    let lines: Vec<(&str, Option<Vec<u16>>, usize, Result<Vec<u16>, Refusal>)> = vec![
+        // the first digit alone is the width, and any 2 makes a half turn
+        ("2Uw", Some(vec![W(2, 6, 2)]), 4, Ok(vec![W(2, 6, 1)])),
+        ("2Uw'", Some(vec![W(2, 6, 2)]), 4, Ok(vec![W(2, 6, 3)])),
+        ("10Uw", Some(vec![W(1, 6, 1)]), 11, Ok(vec![W(10, 6, 1)])),
+        ("12Uw", Some(vec![W(1, 6, 2)]), 13, Ok(vec![W(12, 6, 1)])),
+        ("20Uw", Some(vec![W(2, 6, 2)]), 21, Ok(vec![W(20, 6, 1)])),
+        ("23Uw", Some(vec![W(2, 6, 2)]), 24, Ok(vec![W(23, 6, 1)])),
+        ("32Uw", Some(vec![W(3, 6, 2)]), 33, Ok(vec![W(32, 6, 1)])),
+        // widths that no cube of the size has: the crate's reader knows no size
+        ("Uw", Some(vec![W(2, 6, 1)]), 2, wide(0)),
+        ("4Uw", Some(vec![W(4, 6, 1)]), 4, wide(0)),
+        ("1Uw", Some(vec![W(1, 6, 1)]), 4, wide(0)),
+        ("0Uw", Some(vec![W(0, 6, 1)]), 4, not(0)),
+        // no tokens of the grammar, accepted there
+        ("U2'", Some(vec![2]), 3, not(0)),
+        ("U'2", Some(vec![2]), 3, not(0)),
+        ("Uw2'", Some(vec![W(2, 6, 2)]), 4, not(0)),
+        ("R3", Some(vec![13]), 3, not(0)),
+        ("Uxyz", Some(vec![1]), 3, not(0)),
+        ("U,R", Some(vec![1]), 3, not(0)),
+        ("R//", Some(vec![13]), 3, not(0)),
+        ("xw", Some(vec![49]), 4, not(0)),
+        ("wU", Some(vec![W(2, 6, 1)]), 4, not(0)),
+        ("RwU", Some(vec![W(2, 6, 1)]), 4, not(0)),
+        ("-Uw", Some(vec![W(2, 6, 1)]), 4, not(0)),
+        ("+3Uw", Some(vec![W(2, 6, 1)]), 4, not(0)),
+        ("R\u{2019}", Some(vec![13]), 3, not(0)),
+        // a panic there
+        ("2R", None, 3, not(0)),
+        ("Q", None, 3, not(0)),
+        ("\u{2019}", None, 3, not(0)),
+        // other spaces of Unicode part tokens there
+        ("U\u{a0}R", Some(vec![1, 13]), 3, not(0)),
+    ];
+    for (text, crates, n, ours) in &lines {
+        assert_eq!(&crate_reads(text), crates, "the crate on {text:?}");
+        assert_eq!(&ours_reads(*n, text), ours, "here, size {n}, on {text:?}");
+    }
+    lines.len()
+}
+
+fn ours_moves(n: usize, list: &[u16]) -> Result<Vec<u8>, Refusal> {
+    let (mut cube, mut work) = (vec![0u8; 6 * n * n], vec![0u8; 6 * n * n]);
+    cubesim_proved::solved(n, &mut cube)?;
+    cubesim_proved::apply_moves(n, &mut cube, &mut work, list)?;
+    Ok(cube)
+}
+
+/// Width 0 turns the stickers of the face alone there, a width above n the whole cube; 105 wraps ids; from letters all ids are 0.
+fn moving() -> usize {
+    let zero = FaceletCube::new(2).apply_move(mv(cubesim_proved::code(0, 6, 1)));
+    assert_eq!(letters(&zero.state()), letters(&FaceletCube::new(2).state()));
+    assert_ne!(ids(&zero), ids(&FaceletCube::new(2)));
+    assert_eq!(ours_moves(2, &[cubesim_proved::code(0, 6, 1)]), Err(Refusal::Width(None)));
+    let past = FaceletCube::new(2).apply_move(mv(cubesim_proved::code(3, 6, 1)));
+    assert_eq!(letters(&past.state()), letters(&FaceletCube::new(2).apply_move(mv(53)).state()));
+    assert_eq!(ours_moves(2, &[cubesim_proved::code(3, 6, 1)]), Err(Refusal::Width(None)));
+    let wrapped = ids(&FaceletCube::new(105));
+    assert_eq!((wrapped.len(), wrapped[65_536]), (66_150, 0));
+    assert_eq!(cubesim_proved::solved_ids(105, &mut [0u16; 66_150]), Err(Refusal::Size));
+    assert!(ids(&FaceletCube::from(FaceletCube::new(2).state())).iter().all(|i| *i == 0));
+    assert!(catch_unwind(|| cubesim::sticker_index(3, cubesim::Face::X, 1)).is_err());
+    assert_eq!(cubesim_proved::sticker_index(3, b'X', 1), Err(Refusal::Index));
+    assert_eq!(cubesim::sticker_index(3, cubesim::Face::F, 10), 27);
+    assert_eq!(cubesim_proved::sticker_index(3, b'F', 10), Err(Refusal::Index));
+    6
+}
+
+/// Neighbours of one kind and two widths join there, under the first width.
+fn lists() -> usize {
+    let list = [cubesim_proved::code(2, 6, 1), cubesim_proved::code(3, 6, 1)];
+    assert_eq!(codes(&cubesim::simplify_moves(&mvs(&list))), [cubesim_proved::code(2, 6, 2)]);
+    let mut out = [0u16; 2];
+    assert_eq!(cubesim_proved::simplify_moves(4, &list, &mut out), Ok(2));
+    assert_eq!(out, list);
+    assert_eq!(code(cubesim::all_moves(2)[18]), cubesim_proved::code(1, 6, 1));
+    1
+}
+
+pub fn all() -> usize {
+    std::panic::set_hook(Box::new(|_| ()));
+    let shown = notation() + moving() + lists();
+    let _ = std::panic::take_hook();
+    shown
+}

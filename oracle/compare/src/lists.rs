@@ -1,0 +1,48 @@
+//! Codes and lists: all_moves, sticker_index, simplify_moves.
+use crate::crate_side::{codes, face, mvs};
+use crate::{rng::Rng, Tally};
+
+pub fn all_moves(tally: &mut Tally) {
+    for n in 1..=104usize {
+        let crates = codes(&cubesim::all_moves(n as i32));
+        let mut out = vec![0u16; crates.len()];
+        let count = cubesim_proved::all_moves(n, &mut out).unwrap();
+        out.truncate(count);
+        tally.same("all_moves, a size each", &crates, &out, || format!("size {n}"));
+    }
+}
+
+pub fn sticker_index(tally: &mut Tally) {
+    for n in 1..=104usize {
+        for letter in *b"URFDLB" {
+            for index in 1..=n * n {
+                let crates = cubesim::sticker_index(n as i32, face(letter), index as i32) as usize;
+                let ours = cubesim_proved::sticker_index(n, letter, index).unwrap();
+                tally.same("sticker_index, a sticker each", &crates, &ours, || format!("size {n}, face {letter}, {index}"));
+            }
+        }
+    }
+}
+
+/// Lists where each wide kind has one width; of few kinds, so that many join.
+pub fn simplify(tally: &mut Tally, rng: &mut Rng) {
+    for round in 0..200_000 {
+        let n = 1 + rng.below(12);
+        let widths: Vec<u16> = (0..6).map(|_| 1 + rng.below(n) as u16).collect();
+        let some: Vec<u16> = (0..1 + rng.below(4)).map(|_| rng.below(15) as u16).collect();
+        let length = if round % 100 == 0 { 300 } else { rng.below(14) };
+        let list: Vec<u16> = (0..length)
+            .map(|_| {
+                let kind = *rng.of(&some);
+                let width = if (6..12).contains(&kind) { widths[kind as usize - 6] } else { 0 };
+                width * 64 + kind * 4 + 1 + rng.below(3) as u16
+            })
+            .collect();
+        let crates = codes(&cubesim::simplify_moves(&mvs(&list)));
+        let mut out = vec![9u16; list.len()];
+        let count = cubesim_proved::simplify_moves(n, &list, &mut out).unwrap();
+        assert!(out[count..].iter().all(|c| *c == 0));
+        out.truncate(count);
+        tally.same("simplify_moves, a list each", &crates, &out, || format!("size {n}, {list:?}"));
+    }
+}

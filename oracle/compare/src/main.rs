@@ -1,0 +1,50 @@
+//! Holds the proved library against the crate, on document 01's domain, and shows each known difference outside it.
+//!
+//!   compare [SEED]     ends with status 1 at the first difference, with the smallest input found
+mod crate_side;
+mod differences;
+mod lists;
+mod moving;
+mod notation;
+mod rng;
+mod solving;
+
+use rng::Rng;
+use std::collections::BTreeMap;
+use std::time::Instant;
+
+/// How many answers were compared, by kind; and the end of the run at the first that differs.
+pub struct Tally(BTreeMap<&'static str, u64>);
+
+impl Tally {
+    pub fn same<T: PartialEq + std::fmt::Debug>(&mut self, kind: &'static str, crates: &T, ours: &T, input: impl Fn() -> String) {
+        *self.0.entry(kind).or_insert(0) += 1;
+        if crates != ours {
+            println!("DIFFERENT {kind}: {}\n  the crate: {crates:?}\n  here:      {ours:?}", input());
+            std::process::exit(1);
+        }
+    }
+}
+
+fn main() {
+    let seed = std::env::args().nth(1).map_or(20261115, |s| s.parse().expect("a seed is a number"));
+    let start = Instant::now();
+    let mut rng = Rng(seed);
+    let mut tally = Tally(BTreeMap::new());
+    lists::all_moves(&mut tally);
+    lists::sticker_index(&mut tally);
+    lists::simplify(&mut tally, &mut rng);
+    notation::tokens(&mut tally);
+    notation::texts(&mut tally, &mut rng);
+    moving::every_move(&mut tally);
+    moving::random_lists(&mut tally, &mut rng);
+    moving::masks(&mut tally, &mut rng);
+    moving::solved(&mut tally, &mut rng);
+    solving::tables(&mut tally, &mut rng);
+    solving::searches(&mut tally, &mut rng);
+    let shown = differences::all();
+    for (kind, count) in &tally.0 {
+        println!("{count:>9}  {kind}");
+    }
+    println!("{:>9}  answers compared, seed {seed}, none different; {shown} known differences shown; {} s", tally.0.values().sum::<u64>(), start.elapsed().as_secs());
+}
