@@ -16,7 +16,7 @@ use Rattle.pruning_table.specs.declared.Step.the-variants.{At, Full}
 use Rattle.pruning_table.specs.declared.Growth.{Growth}
 use Rattle.pruning_table.specs.declared.Growth.the-variants.{To, Over}
 use Rattle.pruning_table.specs.Built.{Entry, entry, add, addAll, nexts, frontier}
-use Rattle.pruning_table.specs.AddLaws.{blank, keyIn, Sorted, put}
+use Rattle.pruning_table.specs.AddLaws.{keyIn, numberIn, Sorted, put}
 
 -- the first `count` entries of a slice
 unfoldable pub held : ℕ → ℕ → List ℕ → List Entry
@@ -84,7 +84,7 @@ pub record Standing (m count at : ℕ) (t : List ℕ) : Type 0 where
 -- the entry at a place is spread if it has the number d
 unfoldable pub visited : ℕ → List ℕ → ℕ → ℕ → List Entry → List Entry
 visited n moves d at table =
-    pick (eqb (getD table at blank .number) d) (addAll (d + 1) (nexts n moves (keyIn table at)) table) table
+    pick (eqb (numberIn table at) d) (addAll (d + 1) (nexts n moves (keyIn table at)) table) table
 
 -- the walk went on to those of `table`, and still stands before the same entries with the number d
 pub record Walked (m d : ℕ) (table : List Entry) (t : List ℕ) (count at : ℕ) (t′ : List ℕ) (count′ at′ : ℕ) : Type 0 where

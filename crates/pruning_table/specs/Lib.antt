@@ -12,5 +12,6 @@ pub mod Exact
 pub mod CountLaws
 pub mod RisingLaws
 pub mod ExactLaws
-pub mod Promises
 pub mod AdmissibleLaws
+pub mod Promises
+pub mod MemberLaws

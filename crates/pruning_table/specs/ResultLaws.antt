@@ -1,21 +1,20 @@
 -- What the refusals leave to build on, and the result in each case.
 use Prim.Native.Nat.{ℕ, _+_, _*_, _%_, _≤_, _<_}
-use mathlib.Core.Path.{_≡_, refl, sym, ap, ap₂, subst, _∙_}
+use mathlib.Core.Path.{_≡_, refl, sym, ap, ap₂, _∙_}
 use mathlib.Core.Bool.{Bool, true, false, not}
 use mathlib.Core.List.{List, _++_, append-nil}
 use native.Mathlib.Omega.{arith}
-use lib.Dec.{eqb, ltb}
+use lib.Dec.{eqb}
 use lib.ListN.{length, take, drop, replicate}
 use lib.Seq.{take-length, drop-length}
 use borrow.Author.Tests.{lt-ltb, le-ltb, eq-eqb, ne-eqb, eqb-true, eqb-false, not-false}
 use Rattle.ground.specs.Choice.{pick, bool-cases}
-use Rattle.generic_cube.specs.Numbers.{small, beyond, stickers, answer}
+use Rattle.generic_cube.specs.Numbers.{small, beyond, stickers}
 use Rattle.generic_cube.specs.Code.{listRefusal}
 use Rattle.generic_cube.specs.CodeLaws.{small-bounds, in-reach}
 use Rattle.generic_cube.specs.declared.Answer.the-variants.{Value, Refused}
-use Rattle.geometric_moves.specs.Turn.{listOff}
 use Rattle.table.specs.Table.{entries}
-use Rattle.pruning_table.specs.Built.{Entry, bytes, tableOf, earlyRefusal, outnumbered, pruningRefusal, pruningOut, over, PruningTableResult}
+use Rattle.pruning_table.specs.Built.{Entry, bytes, tableOf, earlyRefusal, pruningRefusal, pruningOut, over, PruningTableResult}
 use Rattle.pruning_table.specs.Held.{held, Grew, Ready}
 use Rattle.pruning_table.specs.HeldLaws.{length-held, bytes-held, held-long, length-bytes, room-bytes}
 use Rattle.pruning_table.specs.StageLaws.{grew-room}

@@ -1,24 +1,23 @@
 -- Laws of a walk over entries while others are added: the entries ahead of it with its number stay the same.
 use Prim.Native.Nat.{ℕ, zero, suc, _+_, _-_, _*_, _≤_, _<_}
 use mathlib.Core.Path.{_≡_, refl, sym, ap, ap₂, subst, _∙_}
-use mathlib.Core.Bool.{Bool, true, false}
-use mathlib.Core.List.{List, [], _∷_, _++_, map}
+use mathlib.Core.List.{List, [], _∷_}
 use mathlib.Core.Logic.{⊎-elim}
-use native.Mathlib.Nat.{suc-mul, zero-mul, eq-or-lt-of-le}
+use native.Mathlib.Nat.{suc-mul, eq-or-lt-of-le}
 use native.Mathlib.Numerals.{add-one}
 use native.Mathlib.Omega.{arith}
 use lib.Dec.{eqb}
 use lib.ListN.{length, take, drop, getD}
 use lib.Seq.{drop-cons, drop-drop, drop-nil}
 use borrow.Author.Tests.{eq-eqb, ne-eqb}
-use Rattle.ground.specs.Choice.{pick, bool-cases}
+use Rattle.ground.specs.Choice.{bool-cases}
 use Rattle.generic_cube.specs.Code.{moveOf}
 use Rattle.geometric_moves.specs.Turn.{moved}
-use Rattle.table.specs.Table.{keyAt, numberAt, entries}
+use Rattle.table.specs.Table.{keyAt, numberAt}
 use Rattle.pruning_table.specs.Built.{Entry, entry, add, addAll, nexts, spread, frontier, built, cubes}
-use Rattle.pruning_table.specs.AddLaws.{blank, keyIn, put, all-append, all-length}
+use Rattle.pruning_table.specs.AddLaws.{blank, keyIn, numberIn, put, all-append, all-length}
 use Rattle.pruning_table.specs.Held.{held, Ordered, Grew, Placed, Standing, Walked, visited}
-use Rattle.pruning_table.specs.HeldLaws.{length-held, held-key, held-number, numberIn, grew-none, grew-two}
+use Rattle.pruning_table.specs.HeldLaws.{held-key, held-number, grew-none, grew-two}
 
 -- entries of another number, put anywhere, do not count
 module _ (d : ℕ) (x : Entry) (other : x .number ≡ d → ⊥) where

@@ -3,19 +3,17 @@ use mathlib.Core.Path.{_≡_, refl, sym, ap, subst, _∙_}
 use mathlib.Core.List.{List}
 use mathlib.Core.Bool.{Bool, true, false, true≢false}
 use mathlib.Core.Logic.{⊎-elim}
-use Prim.Native.Nat.{ℕ, zero, suc, _+_, _-_, _*_, _/_, _%_, _≤_, _<_}
+use Prim.Native.Nat.{ℕ, zero, suc, _+_, _-_, _*_, _%_, _≤_, _<_}
 use native.Mathlib.Nat.{le-div-iff-mul-le, suc-mul, div-le-self, eq-or-lt-of-le, sub-zero}
 use native.Mathlib.Numerals.{add-one}
 use native.Mathlib.Omega.{arith}
 use lib.Dec.{eqb}
-use lib.ListN.{length, take, drop, getD, length-drop}
+use lib.ListN.{length, drop, length-drop}
 use lib.Seq.{length-take-le}
 use borrow.Author.Tests.{eq-eqb, ne-eqb}
-use Rattle.ground.specs.Choice.{pick, bool-cases}
+use Rattle.ground.specs.Choice.{pick}
 use Rattle.ground.specs.Sides.{less-cases}
-use Rattle.table.specs.declared.Order.{Order}
 use Rattle.table.specs.declared.Order.the-variants.{Less, Same, More}
-use Rattle.table.specs.declared.Spot.the-variants.{At, Gap}
 use Rattle.table.specs.Order.{orderOf, isSame, isLess}
 use Rattle.table.specs.OrderLaws.{order-split, same-eq, eq-same, more-flip, less-trans, is-less, less-not-same, flip-not-same}
 use Rattle.table.specs.Asked.{Held}

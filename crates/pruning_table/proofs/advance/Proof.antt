@@ -1,6 +1,6 @@
 -- `advance`: the next cube is added, and the walk goes on where an entry was put before its place.
 use Prim.Native.Nat.{_+_, _≤_}
-use mathlib.Core.Path.{_≡_, refl, sym, ap, _∙_}
+use mathlib.Core.Path.{_≡_, sym, ap, _∙_}
 use native.Mathlib.Omega.{arith}
 use lib.ListN.{getD, length}
 use Rattle.generic_cube.specs.declared.Move.{Move}
@@ -19,19 +19,53 @@ use borrow.Author.Needs.{needs}
 use Rattle.pruning_table.proofs.advance.Statement.{statement}
 use Rattle.pruning_table.proofs.advance.Tie as tie
 
+-- places of the code
+abbrev add-of-else1 : tie.Else1 → tie.After-add
+add-of-else1 c = c .before .before .before .before .before .before
+
+abbrev add-of-then1 : tie.Then1 → tie.After-add
+add-of-then1 c = c .before .before .before .before .before .before
+
+abbrev m-of-add : tie.After-add → tie.After-m
+m-of-add c = c .before .before .before .before .before .before .before .before
+
+abbrev start-of-enum-told : tie.After-enum-told → tie.Start
+start-of-enum-told c = c .before .before .before .before .before .before .before .before
+
+abbrev start-of-m : tie.After-m → tie.Start
+start-of-m c = c .before .before .before .before .before .before .before .before
+
+abbrev start-of-compute-permutation-arg : tie.After-compute-permutation-arg → tie.Start
+start-of-compute-permutation-arg c = start-of-m (c .before .before)
+
+abbrev start-of-add-arg2 : tie.After-add-arg2 → tie.Start
+start-of-add-arg2 c = start-of-m (c .before .before .before .before .before .before .before)
+
+abbrev start-of-add : tie.After-add → tie.Start
+start-of-add c = start-of-m (m-of-add c)
+
+abbrev start-of-enum-told2 : tie.After-enum-told2 → tie.Start
+start-of-enum-told2 c = start-of-add (c .before .before .before .before)
+
+abbrev start-of-else1 : tie.Else1 → tie.Start
+start-of-else1 c = start-of-add (add-of-else1 c)
+
+abbrev start-of-then1 : tie.Then1 → tie.Start
+start-of-then1 c = start-of-add (add-of-then1 c)
+
 -- the code is taken apart as its move
 taken : (c : tie.After-m)
-    → (c .m .given .0 .0 ≡ moveOf (getD (c .before .before .before .before .before .before .before .before .args .moves .now) (c .before .before .before .before .before .before .before .before .args .i) 0)) × Fair (c .before .before .before .before .before .before .before .before .args .n) (c .m .given .0 .0)
+    → (c .m .given .0 .0 ≡ moveOf (getD (start-of-m c .args .moves .now) (start-of-m c .args .i) 0)) × Fair (start-of-m c .args .n) (c .m .given .0 .0)
 taken c =
-    let a = c .before .before .before .before .before .before .before .before in
+    let a = start-of-m c in
     list-taken (a .args .n) (a .args .moves .now) (a .pre .0 .good) (a .pre .0 .some) (a .pre .2) (sym (c .m .given .1) ∙ c .before .before .read-code .ensures)
 
 -- and the turned cube was added
 added : (c : tie.After-add)
-    → Added (stickers (c .before .before .before .before .before .before .before .before .before .before .before .before .before .before .before .before .args .n)) (c .before .before .before .before .before .before .before .before .before .before .before .before .before .before .before .before .args .count) (entry (moved (c .before .before .before .before .before .before .before .before .before .before .before .before .before .before .before .before .args .n) (moveOf (getD (c .before .before .before .before .before .before .before .before .before .before .before .before .before .before .before .before .args .moves .now) (c .before .before .before .before .before .before .before .before .before .before .before .before .before .before .before .before .args .i) 0)) (c .before .before .before .before .before .before .before .before .before .before .before .before .before .before .before .before .args .cube .now)) (c .before .before .before .before .before .before .before .before .before .before .before .before .before .before .before .before .args .number + 1)) (c .before .before .before .before .before .before .before .before .before .before .before .before .before .before .before .before .args .table .now) (c .add .last .0) (c .add .result)
+    → Added (stickers (start-of-add c .args .n)) (start-of-add c .args .count) (entry (moved (start-of-add c .args .n) (moveOf (getD (start-of-add c .args .moves .now) (start-of-add c .args .i) 0)) (start-of-add c .args .cube .now)) (start-of-add c .args .number + 1)) (start-of-add c .args .table .now) (c .add .last .0) (c .add .result)
 added c =
-    let a = c .before .before .before .before .before .before .before .before .before .before .before .before .before .before .before .before .args in
-    added-key (c .before .before .before .before .before .compute-permutation .ensures ∙ ap (λ (m : Move). moved (a .n) m (a .cube .now)) (taken (c .before .before .before .before .before .before .before .before) .0)) (c .add .ensures)
+    let a = start-of-add c .args in
+    added-key (c .before .before .before .before .before .compute-permutation .ensures ∙ ap (λ (m : Move). moved (a .n) m (a .cube .now)) (taken (m-of-add c) .0)) (c .add .ensures)
 
 few : (c : tie.Start) → c .args .count ≤ length (c .args .table .now)
 few c = omega (arith, c .pre .1 .ordered .room, entries-most (stickers (c .args .n)) (c .args .table .now))
@@ -53,12 +87,12 @@ enum-told c = search needs
 
 returns : tie.Need-returns
 returns c =
-    let a = c .before .before .before .before .before .before .before .before in
+    let a = start-of-enum-told c in
     absurd (list-reads (a .args .n) (a .args .moves .now) (a .pre .0 .good) (a .pre .2) (sym (c .enum-told .given .1) ∙ c .before .before .read-code .ensures))
 
 compute-permutation-requires : tie.Need-compute-permutation-requires
 compute-permutation-requires c κs =
-    let a = c .before .before .before .before .before .before .before .before .before .before .pre .0 in
+    let a = start-of-compute-permutation-arg c .pre .0 in
     record { sized = record { some = a .some; size = omega (arith, a .size) }; fair = taken (c .before .before) .1; old-long = a .cube-long; new-long = a .next-long }
 
 mul-add : tie.Need-mul-add
@@ -72,7 +106,7 @@ add-add c = search needs
 
 add-requires : tie.Need-add-requires
 add-requires c κs =
-    let a = c .before .before .before .before .before .before .before .before .before .before .before .before .before .before .before in
+    let a = start-of-add-arg2 c in
     record {
       short = omega (arith, small-cube _ (a .pre .0 .size));
       ordered = a .pre .1 .ordered;
@@ -86,7 +120,7 @@ enum-known-placing : tie.Need-enum-known-placing
 enum-known-placing c = search needs
 
 add-t28 : tie.Need-add-t28
-add-t28 c = omega (arith, few (c .before .before .before .before .before .before .before .before .before .before .before .before .before .before .before .before .before .before .before .before .before .before))
+add-t28 c = omega (arith, few (start-of-then1 c))
 
 add-t29 : tie.Need-add-t29
 add-t29 c = search needs
@@ -98,10 +132,10 @@ same-length-2 : tie.Need-same-length-2
 same-length-2 c = search needs
 
 returns-2 : tie.Need-returns-2
-returns-2 c = step-at (walk-before (c .before .before .before .before .before .before .before .before .before .before .before .before .before .before .before .before .before .before .before .before .before .before .pre .1) (added (c .before .before .before .before .before .before) .before _ (c .before .before .placing .given .1)) (c .if1 .taken))
+returns-2 c = step-at (walk-before (start-of-then1 c .pre .1) (added (add-of-then1 c) .before _ (c .before .before .placing .given .1)) (c .if1 .taken))
 
 add-t30 : tie.Need-add-t30
-add-t30 c = omega (arith, few (c .before .before .before .before .before .before .before .before .before .before .before .before .before .before .before .before .before .before .before .before .before .before))
+add-t30 c = omega (arith, few (start-of-else1 c))
 
 enum-told-3 : tie.Need-enum-told-3
 enum-told-3 c = search needs
@@ -115,7 +149,7 @@ same-length-4 c = search needs
 returns-3 : tie.Need-returns-3
 returns-3 c =
     let w = added (c .before .before .before .before) .there (c .enum-told2 .given .1) in
-    step-at (walk-there (c .before .before .before .before .before .before .before .before .before .before .before .before .before .before .before .before .before .before .before .before .pre .1) _ (w .0) (w .1))
+    step-at (walk-there (start-of-enum-told2 c .pre .1) _ (w .0) (w .1))
 
 same-length-5 : tie.Need-same-length-5
 same-length-5 c = search needs
@@ -124,7 +158,7 @@ same-length-6 : tie.Need-same-length-6
 same-length-6 c = search needs
 
 returns-4 : tie.Need-returns-4
-returns-4 c = step-at (walk-after (c .before .before .before .before .before .before .before .before .before .before .before .before .before .before .before .before .before .before .before .before .before .before .pre .1) (added (c .before .before .before .before .before .before) .before _ (c .before .before .placing .given .1)) (c .if1 .left))
+returns-4 c = step-at (walk-after (start-of-else1 c .pre .1) (added (add-of-else1 c) .before _ (c .before .before .placing .given .1)) (c .if1 .left))
 
 same-length-7 : tie.Need-same-length-7
 same-length-7 c = search needs

@@ -16,6 +16,34 @@ use borrow.Author.Needs.{needs}
 use Rattle.pruning_table.proofs.visit.Statement.{statement}
 use Rattle.pruning_table.proofs.visit.Tie as tie
 
+-- places of the code
+abbrev start-of-then1 : tie.Then1 → tie.Start
+start-of-then1 c = c .before .before .before .before .before .before .before
+
+abbrev start-of-key-at-arg : tie.After-key-at-arg → tie.Start
+start-of-key-at-arg c = c .before .before .before .before .before .before .before .before
+
+abbrev copy-of-slice-known6 : tie.After-slice-known6 → tie.After-copy
+copy-of-slice-known6 c = c .before .before .before .before .before .before .before .before .before .before
+
+abbrev start-of-copy-arg : tie.After-copy-arg → tie.Start
+start-of-copy-arg c = start-of-key-at-arg (c .before .before)
+
+abbrev key-at-of-slice-known6 : tie.After-slice-known6 → tie.After-key-at
+key-at-of-slice-known6 c = c .before .before .before .before .before .before .before .before .before .before .before .before
+
+abbrev else1-of-slice-known6 : tie.After-slice-known6 → tie.Else1
+else1-of-slice-known6 c = c .before .before .before .before .before .before .before .before .before .before .before .before .before .before
+
+abbrev number-at-of-slice-known6 : tie.After-slice-known6 → tie.After-number-at
+number-at-of-slice-known6 c = c .before .before .before .before .before .before .before .before .before .before .before .before .before .before .before
+
+abbrev start-of-spread-arg3 : tie.After-spread-arg3 → tie.Start
+start-of-spread-arg3 c = start-of-copy-arg (c .before .before .before .before .before .before)
+
+abbrev start-of-slice-known6 : tie.After-slice-known6 → tie.Start
+start-of-slice-known6 c = start-of-spread-arg3 (c .before .before .before .before .before)
+
 -- the entry is there
 there : (c : tie.Start) → Held (stickers (c .args .n)) (c .args .table .now) (c .args .at)
 there c =
@@ -36,21 +64,21 @@ same-length c = search needs
 
 returns : tie.Need-returns
 returns c =
-    let a = c .before .before .before .before .before .before .before in
+    let a = start-of-then1 c in
     step-at (walk-table (sym (visit-pass _ _ _ (a .pre .1) (λ e. c .if1 .taken (c .before .number-at .ensures ∙ e)))) (walk-none (a .pre .1)))
 
 key-at-requires : tie.Need-key-at-requires
-key-at-requires c κs = there (c .before .before .before .before .before .before .before .before)
+key-at-requires c κs = there (start-of-key-at-arg c)
 
 copy-requires : tie.Need-copy-requires
 copy-requires c κs =
-    let a = c .before .before .before .before .before .before .before .before .before .before in
+    let a = start-of-copy-arg c in
     a .pre .0 .cube-long ∙ sym (ap length (c .before .key-at .ensures) ∙ length-key _ _ _ (there a .there))
 
 spread-requires : tie.Need-spread-requires
 spread-requires c κs =
-    let a = c .before .before .before .before .before .before .before .before .before .before .before .before .before .before .before .before .pre .0 in
-    (record { some = a .some; size = a .size; good = a .good; shallow = a .shallow; cube-long = c .before .before .before .before .before .copy .kept .1 .0 ∙ a .cube-long; next-long = a .next-long }, c .before .before .before .before .before .before .before .before .before .before .before .before .before .before .before .before .pre .1)
+    let a = start-of-spread-arg3 c .pre .0 in
+    (record { some = a .some; size = a .size; good = a .good; shallow = a .shallow; cube-long = c .before .before .before .before .before .copy .kept .1 .0 ∙ a .cube-long; next-long = a .next-long }, start-of-spread-arg3 c .pre .1)
 
 same-length-2 : tie.Need-same-length-2
 same-length-2 c = search needs
@@ -63,10 +91,10 @@ same-length-4 c = search needs
 
 returns-2 : tie.Need-returns-2
 returns-2 c =
-    let a = c .before .before .before .before .before .before .before .before .before .before .before .before .before .before .before .before .before .before .before .before .before in
+    let a = start-of-slice-known6 c in
     step-table
-    (ap (λ (s : List ℕ). addAll (a .args .number + 1) (nexts (a .args .n) (a .args .moves .now) s) (held (stickers (a .args .n)) (a .args .count) (a .args .table .now))) (c .before .before .before .before .before .before .before .before .before .before .copy .ensures ∙ c .before .before .before .before .before .before .before .before .before .before .before .before .key-at .ensures)
-    ∙ sym (visit-spread _ _ _ (a .pre .1) (sym (c .before .before .before .before .before .before .before .before .before .before .before .before .before .before .before .number-at .ensures) ∙ c .before .before .before .before .before .before .before .before .before .before .before .before .before .before .if1 .left)))
+    (ap (λ (s : List ℕ). addAll (a .args .number + 1) (nexts (a .args .n) (a .args .moves .now) s) (held (stickers (a .args .n)) (a .args .count) (a .args .table .now))) (copy-of-slice-known6 c .copy .ensures ∙ key-at-of-slice-known6 c .key-at .ensures)
+    ∙ sym (visit-spread _ _ _ (a .pre .1) (sym (number-at-of-slice-known6 c .number-at .ensures) ∙ else1-of-slice-known6 c .if1 .left)))
     (c .before .before .before .before .spread .ensures)
 
 pub visit-spec : {M : Type 1} → statement M

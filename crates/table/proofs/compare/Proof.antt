@@ -14,6 +14,25 @@ Inv-loop a b i₀ i = (i ≤ length a) × (orderOf a b ≡ orderOf (drop i a) (d
 abbrev μ-loop : tie.MeasureT-loop
 μ-loop a b i₀ i = length a - i
 
+-- places of the code
+abbrev test-of-else2 : tie.Else2 Inv-loop μ-loop → tie.In-loop Inv-loop μ-loop
+test-of-else2 c = c .before .before .before .before .before .before
+
+abbrev test-of-then2 : tie.Then2 Inv-loop μ-loop → tie.In-loop Inv-loop μ-loop
+test-of-then2 c = c .before .before .before .before .before .before
+
+abbrev loop-of-else2 : tie.Else2 Inv-loop μ-loop → tie.At-loop Inv-loop μ-loop
+loop-of-else2 c = c .before .before .before .before .before .before .before
+
+abbrev loop-of-then2 : tie.Then2 Inv-loop μ-loop → tie.At-loop Inv-loop μ-loop
+loop-of-then2 c = c .before .before .before .before .before .before .before
+
+abbrev start-of-else2 : tie.Else2 Inv-loop μ-loop → tie.Start Inv-loop μ-loop
+start-of-else2 c = c .before .before .before .before .before .before .before .before
+
+abbrev start-of-then2 : tie.Then2 Inv-loop μ-loop → tie.Start Inv-loop μ-loop
+start-of-then2 c = c .before .before .before .before .before .before .before .before
+
 loop-holds : tie.Need-loop-holds Inv-loop μ-loop
 loop-holds c = (omega arith, refl)
 
@@ -36,8 +55,8 @@ shared-slice-read-if2-2 c = omega arith
 
 returns-2 : tie.Need-returns-2 Inv-loop μ-loop
 returns-2 c =
-    let l = c .before .before .before .before .before .before .before .loop in
-    sym (l .inv .1 ∙ order-more _ _ (l .i) (c .before .before .before .before .before .before .before .before .pre) (c .before .before .before .before .before .before .loop-test .taken) (c .if2 .taken))
+    let l = loop-of-then2 c .loop in
+    sym (l .inv .1 ∙ order-more _ _ (l .i) (start-of-then2 c .pre) (test-of-then2 c .loop-test .taken) (c .if2 .taken))
 
 add-i : tie.Need-add-i Inv-loop μ-loop
 add-i c = omega arith
@@ -47,8 +66,8 @@ loop-less c = omega arith
 
 loop-again : tie.Need-loop-again Inv-loop μ-loop
 loop-again c =
-    let l = c .before .before .before .before .before .before .before .loop in
-    (omega arith, l .inv .1 ∙ order-next _ _ (l .i) (c .before .before .before .before .before .before .before .before .pre) (c .before .before .before .before .before .before .loop-test .taken) (c .before .before .before .if1 .left) (c .if2 .left))
+    let l = loop-of-else2 c .loop in
+    (omega arith, l .inv .1 ∙ order-next _ _ (l .i) (start-of-else2 c .pre) (test-of-else2 c .loop-test .taken) (c .before .before .before .if1 .left) (c .if2 .left))
 
 returns-3 : tie.Need-returns-3 Inv-loop μ-loop
 returns-3 c =

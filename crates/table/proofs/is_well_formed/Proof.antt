@@ -1,7 +1,6 @@
 -- `is_well_formed`: the keys from the first on rise if those from i on do.
 use Prim.Native.Nat.{_+_, _-_, _≤_, _<_}
 use mathlib.Core.Path.{_≡_, refl, sym, ap, _∙_}
-use mathlib.Core.Bool.{true, false}
 use lib.ListN.{length}
 use Rattle.table.specs.Order.{orderOf, isLess}
 use Rattle.table.specs.OrderLaws.{order-told}
@@ -20,9 +19,28 @@ Inv-loop table m size count last i₀ i =
 abbrev μ-loop : tie.MeasureT-loop
 μ-loop table m size count last i₀ i = last - i
 
+-- places of the code
+abbrev loop-of-compare : tie.After-compare Inv-loop μ-loop → tie.At-loop Inv-loop μ-loop
+loop-of-compare c = c .before .before .before .before
+
+abbrev loop-of-enum-told : tie.After-enum-told Inv-loop μ-loop → tie.At-loop Inv-loop μ-loop
+loop-of-enum-told c = loop-of-compare (c .before .before)
+
+abbrev start-of-key-at : tie.After-key-at Inv-loop μ-loop → tie.Start Inv-loop μ-loop
+start-of-key-at c = c .before .before .before .before .before .before
+
+abbrev start-of-key-at2 : tie.After-key-at2 Inv-loop μ-loop → tie.Start Inv-loop μ-loop
+start-of-key-at2 c = start-of-key-at (c .before)
+
+abbrev start-of-compare : tie.After-compare Inv-loop μ-loop → tie.Start Inv-loop μ-loop
+start-of-compare c = start-of-key-at2 (c .before)
+
+abbrev start-of-enum-told : tie.After-enum-told Inv-loop μ-loop → tie.Start Inv-loop μ-loop
+start-of-enum-told c = start-of-compare (c .before .before)
+
 -- the order of key i and the next
 compared : (c : tie.After-compare Inv-loop μ-loop)
-    → orderOf (keyAt (c .before .before .before .before .before .before .before .before .args .m) (c .before .before .before .before .before .before .before .before .args .table .now) (c .before .before .before .before .loop .i)) (keyAt (c .before .before .before .before .before .before .before .before .args .m) (c .before .before .before .before .before .before .before .before .args .table .now) (c .before .before .before .before .loop .i + 1))
+    → orderOf (keyAt (start-of-compare c .args .m) (start-of-compare c .args .table .now) (loop-of-compare c .loop .i)) (keyAt (start-of-compare c .args .m) (start-of-compare c .args .table .now) (loop-of-compare c .loop .i + 1))
     ≡ c .compare .result
 compared c = order-told (c .before .before .key-at .ensures) (c .before .key-at2 .ensures) (c .compare .ensures)
 
@@ -51,14 +69,14 @@ key-at-requires : tie.Need-key-at-requires Inv-loop μ-loop
 key-at-requires c κs = search needs
 
 add-key-at : tie.Need-add-key-at Inv-loop μ-loop
-add-key-at c = omega (arith, entries-most (c .before .before .before .before .before .before .args .m) (c .before .before .before .before .before .before .args .table .now))
+add-key-at c = omega (arith, entries-most (start-of-key-at c .args .m) (start-of-key-at c .args .table .now))
 
 key-at-requires-2 : tie.Need-key-at-requires-2 Inv-loop μ-loop
 key-at-requires-2 c κs = search needs
 
 compare-requires : tie.Need-compare-requires Inv-loop μ-loop
 compare-requires c κs =
-    let a = c .before .before .before .before .before .before .before .args in
+    let a = start-of-key-at2 c .args in
     let l = c .before .before .before .loop in
     ap length (c .before .key-at .ensures) ∙ length-key (a .m) (l .i) (a .table .now) (omega arith)
     ∙ sym (ap length (c .key-at2 .ensures) ∙ length-key (a .m) (l .i + 1) (a .table .now) (omega arith))
@@ -68,7 +86,7 @@ enum-told c = search needs
 
 add-i : tie.Need-add-i Inv-loop μ-loop
 add-i c =
-    let a = c .before .before .before .before .before .before .before .before .before .before .args in
+    let a = start-of-enum-told c .args in
     omega (arith, entries-most (a .m) (a .table .now))
 
 loop-less : tie.Need-loop-less Inv-loop μ-loop
@@ -76,7 +94,7 @@ loop-less c = omega arith
 
 loop-again : tie.Need-loop-again Inv-loop μ-loop
 loop-again c =
-    let l = c .before .before .before .before .before .before .loop in
+    let l = loop-of-enum-told c .loop in
     let o = compared (c .before .before) ∙ tag-less _ (c .before .match .keys1) in
     (omega arith, refl, refl, l .inv .3, l .inv .4 ∙ rise-next _ (l .i) _ (c .before .before .before .before .before .loop-test .taken) (ap isLess o))
 

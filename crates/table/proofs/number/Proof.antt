@@ -1,8 +1,6 @@
 -- `number`: the number of the whole table is that of the entries from i on.
 use Prim.Native.Nat.{_+_, _-_, _≤_}
 use mathlib.Core.Path.{_≡_, refl, sym, ap, _∙_}
-use mathlib.Core.Bool.{true, false}
-use lib.ListN.{length}
 use Rattle.table.specs.Order.{orderOf, isSame}
 use Rattle.table.specs.OrderLaws.{order-told}
 use Rattle.table.specs.Table.{keyAt, numberAt, entries, look, numberOf}
@@ -22,9 +20,19 @@ Inv-loop table m depth key count i₀ i =
 abbrev μ-loop : tie.MeasureT-loop
 μ-loop table m depth key count i₀ i = count - i
 
+-- places of the code
+abbrev loop-of-number-at : tie.After-number-at Inv-loop μ-loop → tie.At-loop Inv-loop μ-loop
+loop-of-number-at c = c .before .before .before .before .before .before
+
+abbrev start-of-compare : tie.After-compare Inv-loop μ-loop → tie.Start Inv-loop μ-loop
+start-of-compare c = c .before .before .before .before .before .before
+
+abbrev start-of-arm2 : tie.At-match-keys2 Inv-loop μ-loop → tie.Start Inv-loop μ-loop
+start-of-arm2 c = start-of-compare (c .before)
+
 -- the order of entry i's key and the one that is looked up
 compared : (c : tie.After-compare Inv-loop μ-loop)
-    → orderOf (keyAt (c .before .before .before .before .before .before .args .m) (c .before .before .before .before .before .before .args .table .now) (c .before .before .before .loop .i)) (c .before .before .before .before .before .before .args .key .now)
+    → orderOf (keyAt (start-of-compare c .args .m) (start-of-compare c .args .table .now) (c .before .before .before .loop .i)) (start-of-compare c .args .key .now)
     ≡ c .compare .result
 compared c = order-told (c .before .key-at .ensures) refl (c .compare .ensures)
 
@@ -54,12 +62,12 @@ cast-result c = search needs
 
 returns : tie.Need-returns Inv-loop μ-loop
 returns c =
-    let l = c .before .before .before .before .before .before .loop in
+    let l = loop-of-number-at c .loop in
     let o = compared (c .before .before .before) ∙ tag-same _ (c .before .before .match .keys1) in
     c .number-at .ensures ∙ sym (l .inv .2 ∙ look-here _ _ _ _ (l .i) _ (c .before .before .before .before .before .loop-test .taken) (ap isSame o))
 
 add-i : tie.Need-add-i Inv-loop μ-loop
-add-i c = omega (arith, entries-most (c .before .before .before .before .before .before .before .args .m) (c .before .before .before .before .before .before .before .args .table .now))
+add-i c = omega (arith, entries-most (start-of-arm2 c .args .m) (start-of-arm2 c .args .table .now))
 
 loop-less : tie.Need-loop-less Inv-loop μ-loop
 loop-less c = omega arith

@@ -23,15 +23,34 @@ Inv-loop table m count key low₀ high₀ low high =
 abbrev μ-loop : tie.MeasureT-loop
 μ-loop table m count key low₀ high₀ low high = high - low
 
+-- places of the code
+abbrev loop-of-compare : tie.After-compare Inv-loop μ-loop → tie.At-loop Inv-loop μ-loop
+loop-of-compare c = c .before .before .before
+
+abbrev start-of-loop : tie.At-loop Inv-loop μ-loop → tie.Start Inv-loop μ-loop
+start-of-loop c = c .before .before .before
+
+abbrev loop-of-enum-told2 : tie.After-enum-told2 Inv-loop μ-loop → tie.At-loop Inv-loop μ-loop
+loop-of-enum-told2 c = loop-of-compare (c .before .before)
+
+abbrev start-of-compare : tie.After-compare Inv-loop μ-loop → tie.Start Inv-loop μ-loop
+start-of-compare c = start-of-loop (loop-of-compare c)
+
+abbrev start-of-enum-told2 : tie.After-enum-told2 Inv-loop μ-loop → tie.Start Inv-loop μ-loop
+start-of-enum-told2 c = start-of-loop (loop-of-enum-told2 c)
+
+abbrev start-of-enum-told3 : tie.After-enum-told3 Inv-loop μ-loop → tie.Start Inv-loop μ-loop
+start-of-enum-told3 c = start-of-compare (c .before .before)
+
 -- there are no more entries than bytes
-few : (c : tie.At-loop Inv-loop μ-loop) → c .loop .high ≤ length (c .before .before .before .args .table .now)
+few : (c : tie.At-loop Inv-loop μ-loop) → c .loop .high ≤ length (start-of-loop c .args .table .now)
 few c =
-    let a = c .before .before .before in
+    let a = start-of-loop c in
     omega (arith, c .loop .inv .1, a .pre .room, entries-most (a .args .m) (a .args .table .now))
 
 -- the order of the middle key and the one that is sought
 compared : (c : tie.After-compare Inv-loop μ-loop)
-    → orderOf (keyAt (c .before .before .before .before .before .before .args .m) (c .before .before .before .before .before .before .args .table .now) (c .before .before .before .loop .low + (c .before .before .before .loop .high - c .before .before .before .loop .low) / 2)) (c .before .before .before .before .before .before .args .key .now)
+    → orderOf (keyAt (start-of-compare c .args .m) (start-of-compare c .args .table .now) (loop-of-compare c .loop .low + (loop-of-compare c .loop .high - loop-of-compare c .loop .low) / 2)) (start-of-compare c .args .key .now)
     ≡ c .compare .result
 compared c = order-told (c .before .key-at .ensures) refl (c .compare .ensures)
 
@@ -62,15 +81,15 @@ enum-told-2 : tie.Need-enum-told-2 Inv-loop μ-loop
 enum-told-2 c = search needs
 
 add-low : tie.Need-add-low Inv-loop μ-loop
-add-low c = omega (arith, few (c .before .before .before .before .before))
+add-low c = omega (arith, few (loop-of-enum-told2 c))
 
 loop-less : tie.Need-loop-less Inv-loop μ-loop
 loop-less c = omega arith
 
 loop-again : tie.Need-loop-again Inv-loop μ-loop
 loop-again c =
-    let a = c .before .before .before .before .before .before .before .before in
-    let l = c .before .before .before .before .before .loop in (
+    let a = start-of-enum-told2 c in
+    let l = loop-of-enum-told2 c .loop in (
       omega arith,
       omega arith,
       half-less _ _ _ (a .pre .rising) _ (omega (arith, c .before .before .before .before .loop-test .taken, l .inv .1)) (compared (c .before .before) ∙ tag-less _ (c .before .match .keys2)),
@@ -85,7 +104,7 @@ loop-less-2 c = omega arith
 
 loop-again-2 : tie.Need-loop-again-2 Inv-loop μ-loop
 loop-again-2 c =
-    let a = c .before .before .before .before .before .before .before .before in
+    let a = start-of-enum-told3 c in
     let l = c .before .before .before .before .before .loop in
     (omega arith, omega arith, l .inv .2, half-more _ _ _ (a .pre .rising) _ (compared (c .before .before) ∙ tag-more _ (c .before .match .keys3)))
 
