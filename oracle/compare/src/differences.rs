@@ -1,5 +1,5 @@
 //! Where the crate and the rules part: for each line of docs/DIFFERENCES.md its smallest input, what the crate answers and what is answered here.
-use crate::crate_side::{code, codes, ids, letters, mv, mvs};
+use compare::crate_side::{code, codes, ids, letters, mv, mvs};
 use cubesim::prelude::{Cube, FaceletCube};
 use cubesim_proved::Refusal;
 use std::panic::catch_unwind;

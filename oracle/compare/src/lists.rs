@@ -1,6 +1,7 @@
 //! Codes and lists: all_moves, sticker_index, simplify_moves.
-use crate::crate_side::{codes, face, mvs};
-use crate::{rng::Rng, Tally};
+use compare::crate_side::{codes, face, mvs};
+use crate::Tally;
+use compare::rng::Rng;
 
 pub fn all_moves(tally: &mut Tally) {
     for n in 1..=104usize {

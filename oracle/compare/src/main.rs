@@ -1,15 +1,13 @@
 //! Holds the proved library against the crate, on document 01's domain, and shows each known difference outside it.
 //!
 //!   compare [SEED]     ends with status 1 at the first difference, with the smallest input found
-mod crate_side;
 mod differences;
 mod lists;
 mod moving;
 mod notation;
-mod rng;
 mod solving;
 
-use rng::Rng;
+use compare::rng::Rng;
 use std::collections::BTreeMap;
 use std::time::Instant;
 

@@ -1,6 +1,7 @@
 //! Moves on letters and ids, masks, the solved test.
-use crate::crate_side::{faces, ids, letters, mv, mvs, LETTERS};
-use crate::{rng::Rng, Tally};
+use compare::crate_side::{faces, ids, letters, mv, mvs, LETTERS};
+use crate::Tally;
+use compare::rng::Rng;
 use cubesim::prelude::{Cube, FaceletCube};
 
 fn ours(n: usize, list: &[u16]) -> (Vec<u8>, Vec<u16>) {

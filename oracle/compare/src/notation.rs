@@ -1,7 +1,8 @@
 //! parse_scramble: equal to the crate's on grammatical text whose widths are absent or a single digit 3 to 9; elsewhere the refusals are held
 //! against a second reading of the grammar.
-use crate::crate_side::codes;
-use crate::{rng::Rng, Tally};
+use compare::crate_side::codes;
+use crate::Tally;
+use compare::rng::Rng;
 use cubesim_proved::Refusal;
 
 /// A token read by document 01's sentences: its code, or the number of its refusal.

@@ -1,6 +1,7 @@
 //! Pruning tables entry by entry, and searches on built tables and on spoiled ones.
-use crate::crate_side::{codes, faces, letters, mvs};
-use crate::{rng::Rng, Tally};
+use compare::crate_side::{codes, faces, letters, mvs};
+use crate::Tally;
+use compare::rng::Rng;
 use cubesim::prelude::open::{ida_star, PruningTable, Solver};
 use cubesim::prelude::{Cube, FaceletCube};
 

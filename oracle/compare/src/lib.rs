@@ -1,0 +1,3 @@
+//! What the comparison and the benchmarks share.
+pub mod crate_side;
+pub mod rng;
