@@ -17,13 +17,13 @@ use Rattle.generic_cube.specs.declared.Done.{Done}
 use Rattle.generic_cube.specs.declared.Done.the-variants.{Ok}
 use Rattle.generic_cube.specs.Numbers.{sized, stickers, done}
 use Rattle.generic_cube.specs.Code.{moveOf, listRefusal}
-use Rattle.generic_cube.specs.CodeLaws.{sized-bounds}
+use Rattle.generic_cube.specs.CodeLaws.{sized-bounds, bounds-sized}
 use Rattle.sticker.specs.declared.Found.the-variants.{At}
 use Rattle.sticker.specs.Place.{place, index, found}
 use Rattle.sticker.specs.PlaceLaws.{found-on}
 use Rattle.geometric_moves.specs.declared.GeometricMove.{GeometricMove}
 use Rattle.geometric_moves.specs.Turn.{geometric, turnedBy, target, back, source, moved, run, listOff}
-use Rattle.geometric_moves.specs.TurnLaws.{Sized}
+use Rattle.geometric_moves.specs.TurnLaws.{Sized, list-on}
 use Rattle.geometric_moves.specs.MovedLaws.{length-moved}
 use Rattle.facelet_cube.specs.Apply.{applyRefusal, ApplyMovesResult}
 
@@ -65,6 +65,18 @@ good n cube work moves e =
     (λ u. let z : _≡_ {A = ℕ} 2 0 = rw (s, t, u) at e in absurd (omega arith)))
     (λ t. let z : _≡_ {A = ℕ} 2 0 = rw (s, t) at e in absurd (omega arith)))
     (λ s. let z : _≡_ {A = ℕ} 1 0 = rw s at e in absurd (omega arith))
+
+-- and such a list is never refused: refusal 11 does not come
+pub good-applies : {n cube work : ℕ} {moves : List ℕ} → Good n cube work moves → applyRefusal n cube work moves ≡ 0
+unfolding applyRefusal
+good-applies {n} {cube} {work} {moves} g =
+    rw (
+      bounds-sized n (g .size .some) (g .size .size),
+      eq-eqb _ _ (g .cube-long),
+      eq-eqb _ _ (g .work-long),
+      g .list,
+      list-on n moves (g .size .some),
+    )
 
 -- the loop over the moves: what is left of the list, run on the cube as it is now, gives what the whole list gives
 pub record Running (n : ℕ) (moves cube₀ cube work₀ work : List ℕ) (i : ℕ) : Type 0 where

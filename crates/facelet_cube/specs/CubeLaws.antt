@@ -12,7 +12,7 @@ use Rattle.ground.specs.Choice.{pick, bool-cases, any, any-none}
 use Rattle.ground.specs.Fill.{tabulate}
 use Rattle.ground.specs.Loops.{Filling, fill-all, Changing}
 use Rattle.generic_cube.specs.Numbers.{sized, stickers, letters, letterX}
-use Rattle.generic_cube.specs.CodeLaws.{sized-bounds}
+use Rattle.generic_cube.specs.CodeLaws.{sized-bounds, bounds-sized}
 use Rattle.generic_cube.specs.AllMoves.{upFrom}
 use Rattle.generic_cube.specs.AllMovesLaws.{getD-from}
 use Rattle.sticker.specs.PlaceLaws.{room}
@@ -32,6 +32,10 @@ whole n long e =
     (λ t. let b = sized-bounds n s in record { size = record { some = b .0; size = b .1 }; long-is = eqb-true _ _ t })
     (λ t. let z : _≡_ {A = ℕ} 2 0 = rw (s, t) at e in absurd (omega arith)))
     (λ s. let z : _≡_ {A = ℕ} 1 0 = rw s at e in absurd (omega arith))
+
+pub whole-cube : {n long : ℕ} → Whole n long → cubeRefusal n long ≡ 0
+unfolding cubeRefusal
+whole-cube {n} {long} w = rw (bounds-sized n (w .size .some) (w .size .size), eq-eqb _ _ (w .long-is))
 
 -- whether an id is 6n² or more
 abbrev pub largeId : ℕ → List ℕ → Bool

@@ -1,5 +1,5 @@
 -- Laws of codes: what a list that is not refused holds, and the walk that finds its refusal.
-use Prim.Native.Nat.{ℕ, _+_, _*_, _/_, _%_, _<_, _≤_}
+use Prim.Native.Nat.{ℕ, suc, _+_, _*_, _/_, _%_, _<_, _≤_}
 use mathlib.Core.Path.{_≡_, refl, sym, subst, _∙_}
 use mathlib.Core.Bool.{Bool, true, false, true≢false}
 use mathlib.Core.List.{List, [], _∷_}
@@ -9,7 +9,7 @@ use native.Mathlib.Nat.{mul-le-mul}
 use lib.Dec.{ltb, eqb}
 use lib.ListN.{length, getD, drop, drop-of-length-le}
 use lib.Seq.{drop-cons}
-use borrow.Author.Tests.{ne-eqb, eqb-false, eqb-true, ltb-false, leb-true}
+use borrow.Author.Tests.{le-ltb, le-leb, ne-eqb, eqb-false, eqb-true, ltb-false, leb-true}
 use Rattle.ground.specs.Choice.{pick, bool-cases, any, any-none}
 use Rattle.generic_cube.specs.declared.Move.{Move}
 use Rattle.generic_cube.specs.declared.Code.the-variants.{Taken, Refused}
@@ -23,6 +23,10 @@ sized-bounds n e =
     bool-cases (ltb n 1)
     (λ t. absurd (true≢false (sym (rw t at e))))
     (λ t. (ltb-false n 1 t, leb-true n 104 (rw t at e)))
+
+pub bounds-sized : (n : ℕ) → 1 ≤ n → n ≤ 104 → sized n ≡ true
+unfolding sized
+bounds-sized n a b = rw (le-ltb n 1 a) (le-leb n 104 b)
 
 pub small-bounds : (n : ℕ) → small n ≡ true → (1 ≤ n) × (n ≤ 7)
 unfolding small
@@ -132,6 +136,39 @@ module _ (low high : ℕ) (cs : List ℕ) (e : refusalIn low high cs ≡ 0) wher
 
   pub width-in : (i : ℕ) → i < length cs → badWidthIn low high (moveOf (getD cs i 0)) ≡ false
   width-in i h = any-none (λ c. badWidthIn low high (moveOf c)) cs widths-in i h
+
+module _ (low high : ℕ) where
+  -- a code that is taken, its width within the range
+  pub record Good (c : ℕ) : Type 0 where
+    pub code : badCode (moveOf c) ≡ false
+    pub width : badWidthIn low high (moveOf c) ≡ false
+
+  unfoldable pub AllGood : List ℕ → Type 0
+  AllGood [] = Unit {0}
+  AllGood (c ∷ cs) = Good c × AllGood cs
+
+  all-at : (cs : List ℕ) → ((i : ℕ) → i < length cs → Good (getD cs i 0)) → AllGood cs
+  unfolding AllGood
+  all-at [] f = tt
+  all-at (c ∷ cs) f = (f 0 (omega arith), all-at cs (λ i h. f (suc i) (omega arith)))
+
+  -- a list is taken exactly if each of its codes is
+  pub taken-good : (cs : List ℕ) → refusalIn low high cs ≡ 0 → AllGood cs
+  taken-good cs e = all-at cs (λ i h. record { code = code-in low high cs e i h; width = width-in low high cs e i h })
+
+  good-codes : (cs : List ℕ) → AllGood cs → any (λ c. badCode (moveOf c)) cs ≡ false
+  unfolding AllGood any
+  good-codes [] g = refl
+  good-codes (c ∷ cs) g = rw (g .0 .code) (good-codes cs (g .1))
+
+  good-widths : (cs : List ℕ) → AllGood cs → any (λ c. badWidthIn low high (moveOf c)) cs ≡ false
+  unfolding AllGood any
+  good-widths [] g = refl
+  good-widths (c ∷ cs) g = rw (g .0 .width) (good-widths cs (g .1))
+
+  pub good-taken : (cs : List ℕ) → AllGood cs → refusalIn low high cs ≡ 0
+  unfolding refusalIn
+  good-taken cs g = rw (good-codes cs g, good-widths cs g)
 
 -- each of its moves is fair, and is read as itself
 module _ (n : ℕ) (cs : List ℕ) (e : listRefusal n cs ≡ 0) where

@@ -6,9 +6,10 @@ use mathlib.Core.Bool.{Bool, true, false, not, true≢false}
 use mathlib.Core.List.{List, [], _∷_}
 use native.Mathlib.Omega.{arith}
 use lib.Dec.{ltb}
-use Rattle.ground.specs.Choice.{pick, bool-cases}
+use Rattle.ground.specs.Choice.{pick, bool-cases, any-never, below-never}
 use Rattle.generic_cube.specs.declared.Move.{Move}
 use Rattle.generic_cube.specs.Numbers.{stickers}
+use Rattle.generic_cube.specs.Code.{moveOf}
 use Rattle.generic_cube.specs.CodeLaws.{Fair}
 use Rattle.sticker.specs.declared.Face.{Face}
 use Rattle.sticker.specs.declared.Face.the-variants.{U, R, F, D, L, B}
@@ -20,7 +21,7 @@ use Rattle.sticker.specs.Place.{neg, mid, seat, placeOf, side, isOn, place, ind
 use Rattle.sticker.specs.PlaceLaws.{InCube, Inside, sticker-in, pos-eq, Real, Sticker, sticker-on, found-on, found-off, place-sticker, place-index, index-place, index-below}
 use Rattle.geometric_moves.specs.declared.Rotation.{Rotation}
 use Rattle.geometric_moves.specs.declared.GeometricMove.{GeometricMove}
-use Rattle.geometric_moves.specs.Turn.{toward, rotate, rot, identity, rotX, rotY, rotZ, facing, thenRot, sameFace, whither, inverseRot, turnOf, quarterOf, kindFace, widthOf, layer, via, geometric, turnedBy, turned, target, withTurn, back, source, offAt}
+use Rattle.geometric_moves.specs.Turn.{toward, rotate, rot, identity, rotX, rotY, rotZ, facing, thenRot, sameFace, whither, inverseRot, turnOf, quarterOf, kindFace, widthOf, layer, via, geometric, turnedBy, turned, target, withTurn, back, source, offAt, offFace, listOff}
 use Rattle.geometric_moves.specs.RotationLaws.{toward-rotate, rotate-then, turn-add, turn-mod, turn-axis}
 
 -- the sticker in column c and row r of face f
@@ -256,3 +257,13 @@ module _ {n : ℕ} {g : GeometricMove} (j : ℕ) (k : Kept n g) where
 
   pub target-found : NoFace ≡ found n (turnedBy n g (place n j)) → ⊥
   target-found e = true≢false (sym (sticker-on n (turnedBy n g (place n j)) there) ∙ found-off n (turnedBy n g (place n j)) e)
+
+-- so refusal 11 never comes: whatever the move, and whatever the list, every turned position lies on a face
+pub move-on : (n : ℕ) (m : Move) → 0 < n → offFace n m ≡ false
+move-on n m h =
+    below-never (offAt n (geometric n m))
+    (λ j. ap not (sticker-on n (turned n m (place n j)) (turned-sticker n m (place n j) (place-sticker n j h)))) (stickers n)
+
+pub list-on : (n : ℕ) (cs : List ℕ) → 0 < n → listOff n cs ≡ false
+unfolding listOff
+list-on n cs h = any-never (λ c. offFace n (moveOf c)) (λ c. move-on n (moveOf c) h) cs

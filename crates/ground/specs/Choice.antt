@@ -71,6 +71,12 @@ any-none p (x ∷ xs) e zero h = bool-cases (p x) (λ t. absurd (true≢false (r
 any-none p (x ∷ xs) e (suc i) h =
     any-none p xs (bool-cases (p x) (λ t. absurd (true≢false (rw t at e))) (λ t. rw t at e)) i (omega arith)
 
+-- where it fails of every number, it holds of none
+pub any-never : (p : ℕ → Bool) → ((x : ℕ) → p x ≡ false) → (xs : List ℕ) → any p xs ≡ false
+unfolding any
+any-never p f [] = refl
+any-never p f (x ∷ xs) = rw (f x) (any-never p f xs)
+
 pub any-append : (p : ℕ → Bool) (xs ys : List ℕ) → any p xs ≡ false → any p ys ≡ false → any p (xs ++ ys) ≡ false
 unfolding any
 any-append p [] ys e d = d
@@ -151,3 +157,8 @@ below-next p j h t = rw (add-one j, t) h
 
 pub below-none : (p : ℕ → Bool) (m : ℕ) → anyBelow p m ≡ false → (j : ℕ) → j < m → p j ≡ false
 below-none p m e j h = bool-cases (p j) (λ t. absurd (true≢false (sym (below-found p j m h t) ∙ e))) (λ t. t)
+
+pub below-never : (p : ℕ → Bool) → ((j : ℕ) → p j ≡ false) → (m : ℕ) → anyBelow p m ≡ false
+unfolding anyBelow
+below-never p f zero = refl
+below-never p f (suc m) = rw (f m) (below-never p f m)

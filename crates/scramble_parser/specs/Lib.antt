@@ -2,6 +2,7 @@ pub mod Token
 pub mod Words
 pub mod Parse
 pub mod ParseLaws
+pub mod TokenLaws
 pub mod Room
 pub mod Lists
 pub mod SimplifyLaws

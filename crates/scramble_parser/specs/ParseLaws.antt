@@ -240,7 +240,7 @@ prefix-ahead (Is c) s (codes ds) ps cs h e =
     cc
 prefix-ahead (Is c) s (bad k a) ps cs h e = let z : _≡_ {A = ℕ} 0 1 = cc in absurd (omega arith)
 
-prefix-codes : (n : ℕ) (ws : List Run) (cs : List ℕ) → reading n ws ≡ codes cs → prefix n ws ≡ cs
+pub prefix-codes : (n : ℕ) (ws : List Run) (cs : List ℕ) → reading n ws ≡ codes cs → prefix n ws ≡ cs
 unfolding prefix reading
 prefix-codes n [] cs e = cc
 prefix-codes n (w ∷ ws) cs e =

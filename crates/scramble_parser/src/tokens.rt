@@ -70,7 +70,7 @@ fn digit_at(t: &[u8], i: usize) -> usize
 }
 
 // How many digits the token starts with, 4 for more than three.
-fn digits(t: &[u8]) -> usize
+pub fn digits(t: &[u8]) -> usize
     ensures { λ r. ⌜ (r ≡ digitsOf (now (t .entry))) × (r ≤ 4) ⌝ }
 {
     if digit_at(t, 0) == 10 {
@@ -89,7 +89,7 @@ fn digits(t: &[u8]) -> usize
 }
 
 // The number that the first k digits write, k from 1 to 3.
-fn number(t: &[u8], k: usize) -> usize
+pub fn number(t: &[u8], k: usize) -> usize
     ensures { λ r. ⌜ r ≡ numberOf k (now (t .entry)) ⌝ }
 {
     let a = digit_at(t, 0);

@@ -9,8 +9,8 @@ use lib.Seq.{getD-append-seam, getD-append-add, take-append-seam}
 use lib.Dec.{ltb, eqb}
 use borrow.Author.Tests.{eq-eqb, ne-eqb, lt-ltb, le-ltb, lt-leb, eqb-true, eqb-false, ltb-true, ltb-false, not-true}
 use Rattle.ground.specs.Choice.{pick, bool-cases, position, any, any-append}
-use Rattle.generic_cube.specs.Code.{moveOf, isWide, badCode, readCode, outside, badWidthIn, refusalIn}
-use Rattle.generic_cube.specs.CodeLaws.{sized-bounds, code-bounds, code-width, code-in, width-in, inside}
+use Rattle.generic_cube.specs.Code.{moveOf, isWide, badCode, readCode, outside, refusalIn}
+use Rattle.generic_cube.specs.CodeLaws.{sized-bounds, code-bounds, code-width, inside, Good, AllGood, taken-good}
 use Rattle.generic_cube.specs.AllMoves.{each, upFrom}
 use Rattle.generic_cube.specs.AllMovesLaws.{all-at, all-below}
 use Rattle.generic_cube.specs.declared.Answer.the-variants.{Value, Refused}
@@ -25,7 +25,6 @@ use Rattle.scramble_parser.specs.Parse.{Reading, codes, ahead, reading, parseAn
 use Rattle.scramble_parser.specs.ParseLaws.{words-space, words-byte, words-end}
 use Rattle.scramble_parser.specs.Write.{kindByte, markText, widthText, tokenText, textOf, restText, listText, writeRefusal, writeOut, WriteResult}
 use Rattle.scramble_parser.specs.Room.{fillRefusal, clear}
-use Rattle.theorems.specs.Kept.{Good, AllGood, taken-good}
 use Rattle.scramble_parser.specs.WriteLaws.{width-none, width-one, width-two, width-three}
 
 -- ---- a byte and what it reads as

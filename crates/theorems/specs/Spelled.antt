@@ -9,21 +9,16 @@ use native.Mathlib.Numerals.{add-one, add-two}
 use lib.ListN.{length, getD, take, drop, length-drop, take-append-drop}
 use lib.Seq.{drop-cons, getD-drop}
 use lib.Dec.{ltb, eqb}
-use borrow.Author.Tests.{eq-eqb, ne-eqb, lt-ltb, le-ltb, eqb-true, eqb-false, ltb-true, ltb-false}
-use Rattle.ground.specs.Choice.{bool-cases, position, position-found, position-most}
-use Rattle.generic_cube.specs.Code.{moveOf, isWide, badCode, outside, badWidthIn}
+use borrow.Author.Tests.{eq-eqb, le-ltb, eqb-true, eqb-false, ltb-true, ltb-false}
+use Rattle.ground.specs.Choice.{bool-cases, position, position-found}
+use Rattle.generic_cube.specs.Code.{isWide, outside}
 use Rattle.generic_cube.specs.CodeLaws.{code-bounds, code-width}
-use Rattle.scramble_parser.specs.declared.Token.the-variants.{Is, Not}
+use Rattle.scramble_parser.specs.declared.Token.the-variants.{Is}
 use Rattle.scramble_parser.specs.Token.{kindLetters, letterOf, isFace, plainKind, markOf, digitOf, isDigit, digitsOf, numberOf, plainOf, wideOf, startsWide, readToken}
+use Rattle.scramble_parser.specs.TokenLaws.{never, code-is, letter-below, digit-back, plain-kind, wide-of, plain-good, wide-good}
 use Rattle.scramble_parser.specs.Write.{kindByte, markText, widthText, tokenText, textOf}
 use Rattle.scramble_parser.specs.WriteLaws.{width-none, width-one, width-two, width-three}
 use Rattle.theorems.specs.RoundTrip.{Writable, text-of, wide-byte, wide-kind, wide-read, wide-behind, digit-of, digit-is, letter-is}
-
-never {ℓ} : {A : Type ℓ} (k c : ℕ) → Not k ≡ Is c → A
-never k c e = let y : _≡_ {A = ℕ} 0 1 = cc in absurd (omega arith)
-
-code-is : (a c : ℕ) → Is a ≡ Is c → a ≡ c
-code-is a c e = cc
 
 -- ---- a suffix with nothing after it is its turn's text
 
@@ -52,10 +47,7 @@ mark-shape (b ∷ x ∷ l) h =
 
 letter-back : (b : ℕ) → (letterOf b ≡ 9 → ⊥) → (letterOf b < 9) × (getD kindLetters (letterOf b) 0 ≡ b)
 unfolding letterOf
-letter-back b n =
-    let m : letterOf b ≤ 9 = position-most b kindLetters in
-    let l : letterOf b < 9 = omega arith in
-    (l, position-found b kindLetters l)
+letter-back b n = let l = letter-below b n in (l, position-found b kindLetters l)
 
 -- ---- the text of a code that was read
 
@@ -64,27 +56,13 @@ pub record Coded (n c : ℕ) (text : List ℕ) : Type 0 where
   pub good : Writable n c
   pub spell : textOf c ≡ text
 
-record PlainKind (p k : ℕ) : Type 0 where
-  most : k < 15
-  plain : isWide k ≡ false
-  byte : kindByte k ≡ getD kindLetters p 0
-
-plain-kind : (p : ℕ) → p < 9 → PlainKind p (plainKind p)
-unfolding plainKind isWide kindByte
-plain-kind p h =
-    bool-cases (ltb p 6)
-    (λ t. let l = ltb-true p 6 t in rw t (record { most = omega arith; plain = rw t; byte = rw t }))
+plain-byte : (p : ℕ) → kindByte (plainKind p) ≡ getD kindLetters p 0
+unfolding plainKind kindByte
+plain-byte p =
+    bool-cases (ltb p 6) (λ t. rw (t, t))
     (λ t. let l = ltb-false p 6 t in
     let e : p + 6 - 6 ≡ p = omega arith in
-    rw t (record {
-      most = omega arith;
-      plain = rw (le-ltb (p + 6) 6 (omega arith)) (le-ltb (p + 6) 12 (omega arith));
-      byte = rw (le-ltb (p + 6) 6 (omega arith), e);
-    }))
-
-good-plain : (c k u : ℕ) → c / 4 % 16 ≡ k → c % 4 ≡ u → c / 64 ≡ 0 → k < 15 → isWide k ≡ false → 1 ≤ u → badCode (moveOf c) ≡ false
-unfolding badCode
-good-plain c k u a b d h w l = rw (a, b, d, ne-eqb u 0 (omega arith), ne-eqb k 15 (omega arith), w)
+    rw t (rw (le-ltb (p + 6) 6 (omega arith), e)))
 
 plain-coded : (n p u c : ℕ) → p < 9 → 1 ≤ u → u ≤ 3 → c ≡ plainKind p * 4 + u → Coded n c (getD kindLetters p 0 ∷ markText u)
 unfolding tokenText
@@ -93,32 +71,20 @@ plain-coded n p u c hp lu hu e =
     let h = f .most in
     let a : c / 4 % 16 ≡ plainKind p = omega arith in
     let b : c % 4 ≡ u = omega arith in
-    let d : c / 64 ≡ 0 = omega arith in
-    let g = good-plain c (plainKind p) u a b d (f .most) (f .plain) lu in
-    record {
-      good = record { code = g; width = rw (a, f .plain) };
-      spell = rw (text-of c g, a, b, f .plain, f .byte);
-    }
-
-good-wide : (c k u : ℕ) → c / 4 % 16 ≡ k → c % 4 ≡ u → k < 15 → isWide k ≡ true → 1 ≤ u → badCode (moveOf c) ≡ false
-unfolding badCode
-good-wide c k u a b h w l = rw (a, b, ne-eqb u 0 (omega arith), ne-eqb k 15 (omega arith), w)
+    let g = plain-good n lu hu hp e in
+    record { good = g; spell = rw (text-of c (g .code), a, b, f .plain, plain-byte p) }
 
 wide-coded : (n w p u c : ℕ) → p < 6 → 1 ≤ u → u ≤ 3 → outside 2 (n - 1) w ≡ false → c ≡ w * 64 + (p + 6) * 4 + u
     → Coded n c (widthText w ++ getD kindLetters p 0 ∷ 119 ∷ markText u)
-unfolding tokenText isWide
+unfolding tokenText
 wide-coded n w p u c hp lu hu o e =
     let a : c / 4 % 16 ≡ p + 6 = omega arith in
     let b : c % 4 ≡ u = omega arith in
     let d : c / 64 ≡ w = omega arith in
-    let i : isWide (p + 6) ≡ true = rw (le-ltb (p + 6) 6 (omega arith)) (lt-ltb (p + 6) 12 (omega arith)) in
     let q : p + 6 - 6 ≡ p = omega arith in
     let y : kindByte (p + 6) ≡ getD kindLetters p 0 = wide-byte (p + 6) (omega arith) ∙ ap (λ (x : ℕ). getD kindLetters x 0) q in
-    let g = good-wide c (p + 6) u a b (omega arith) i lu in
-    record {
-      good = record { code = g; width = rw (a, d, i, o) };
-      spell = text-of c g ∙ rw (a, b, d, i, y);
-    }
+    let g = wide-good n lu hu w hp o e in
+    record { good = g; spell = text-of c (g .code) ∙ rw (a, b, d, wide-of p hp, y) }
 
 -- ---- a plain token
 
@@ -190,14 +156,6 @@ wide-shape n w t k c e =
     (λ a. never 4 c (rw a at e))
 
 -- ---- the digits at the front
-
-pub digit-back : (b : ℕ) → (digitOf b ≡ 10 → ⊥) → (b ≡ 48 + digitOf b) × (digitOf b < 10)
-unfolding digitOf
-digit-back b n =
-    bool-cases (ltb b 48) (λ e. absurd ((rw e at n) refl)) (λ e0.
-    bool-cases (ltb 57 b) (λ e. absurd ((rw (e0, e) at n) refl)) (λ e1.
-    let l = ltb-false b 48 e0 in let h = ltb-false 57 b e1 in
-    rw (e0, e1) (omega arith, omega arith)))
 
 abbrev pub Digit : List ℕ → ℕ → Type 0
 Digit t i = digitOf (getD t i 0) ≡ 10 → ⊥
