@@ -9,12 +9,10 @@ use lib.Dec.{ltb, eqb}
 use lib.ListN.{length, getD, take, drop, length-drop, drop-of-length-le}
 use lib.Seq.{take-all, take-take, length-take-le}
 use borrow.Author.Tests.{eq-eqb, ne-eqb, lt-ltb, le-ltb, eqb-true, eqb-false, ltb-false}
-use Rattle.ground.specs.Choice.{bool-cases, any, position, position-here, position-next, position-end, position-most}
+use Rattle.ground.specs.Choice.{bool-cases, position, position-here, position-next, position-end, position-most, anyBelow, tested}
 use Rattle.ground.specs.Sides.{less-cases}
 use Rattle.generic_cube.specs.Code.{outside}
 use Rattle.generic_cube.specs.CodeLaws.{inside}
-use Rattle.generic_cube.specs.AllMoves.{upFrom}
-use Rattle.generic_cube.specs.AllMovesLaws.{all-below}
 use Rattle.scramble_parser.specs.Token.{digitOf, isDigit, digitsOf, numberOf}
 use Rattle.scramble_parser.specs.TokenLaws.{digit-back}
 use Rattle.scramble_parser.specs.Words.{wordsFrom}
@@ -178,9 +176,9 @@ size-most one e z = omega (arith, size-of one (λ q. z (e ∙ q)) .most)
 
 -- each size's text is read as that size
 pub size-read : (n : ℕ) → 1 ≤ n → n ≤ 20 → sizeOf (decimal n) ≡ n
-unfolding sizeOf decimal decimalIn digitsOf isDigit digitOf numberOf outside any upFrom
+unfolding sizeOf decimal decimalIn digitsOf isDigit digitOf numberOf outside anyBelow
 size-read zero l h = absurd (omega arith)
-size-read (suc i) l h = eqb-true _ _ (all-below (λ k. eqb (sizeOf (decimal (suc k))) (suc k)) 20 refl i (omega arith))
+size-read (suc i) l h = eqb-true _ _ (tested (λ k. eqb (sizeOf (decimal (suc k))) (suc k)) 20 refl i (omega arith))
 
 is-digit : (b : ℕ) → isDigit b ≡ true → digitOf b ≡ 10 → ⊥
 unfolding isDigit

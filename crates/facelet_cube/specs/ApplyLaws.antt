@@ -1,45 +1,24 @@
 -- Laws of moving and of the list runner. One proof serves letters and ids: a slice of either is a list of numbers.
 use Prim.Native.Nat.{ℕ, _+_, _<_, _≤_}
-use mathlib.Core.Path.{_≡_, refl, sym, ap, subst, _∙_}
-use mathlib.Core.Bool.{Bool, true, false}
-use mathlib.Core.List.{List, [], _∷_}
+use mathlib.Core.Path.{_≡_, refl, sym, ap, _∙_}
+use mathlib.Core.List.{List, _∷_}
 use native.Mathlib.Omega.{arith}
 use native.Mathlib.Numerals.{add-one}
 use lib.Dec.{eqb}
 use lib.ListN.{length, getD, drop, replicate, drop-of-length-le}
 use lib.Seq.{drop-cons}
 use borrow.Author.Tests.{eqb-true, eqb-false, ne-eqb, eq-eqb}
-use Rattle.ground.specs.Choice.{pick, bool-cases}
-use Rattle.ground.specs.Fill.{tabulate}
-use Rattle.ground.specs.Loops.{Filling, fill-all}
+use Rattle.ground.specs.Choice.{bool-cases}
 use Rattle.generic_cube.specs.declared.Move.{Move}
 use Rattle.generic_cube.specs.declared.Done.{Done}
 use Rattle.generic_cube.specs.declared.Done.the-variants.{Ok}
-use Rattle.generic_cube.specs.Numbers.{sized, stickers, done}
+use Rattle.generic_cube.specs.Numbers.{sized, stickers}
 use Rattle.generic_cube.specs.Code.{moveOf, listRefusal}
 use Rattle.generic_cube.specs.CodeLaws.{sized-bounds, bounds-sized}
-use Rattle.sticker.specs.declared.Found.the-variants.{At}
-use Rattle.sticker.specs.Place.{place, index, found}
-use Rattle.sticker.specs.PlaceLaws.{found-on}
-use Rattle.geometric_moves.specs.declared.GeometricMove.{GeometricMove}
-use Rattle.geometric_moves.specs.Turn.{geometric, turnedBy, target, back, source, moved, run, listOff}
+use Rattle.geometric_moves.specs.Turn.{moved, run}
 use Rattle.geometric_moves.specs.TurnLaws.{Sized, list-on}
 use Rattle.geometric_moves.specs.MovedLaws.{length-moved}
 use Rattle.facelet_cube.specs.Apply.{applyRefusal, ApplyMovesResult}
-
--- what belongs at k: the old element where the move back brings k
-abbrev pub whence : ℕ → GeometricMove → List ℕ → ℕ → ℕ
-whence n g old k = getD old (index n (turnedBy n g (place n k))) 0
-
-pub whence-is : (n : ℕ) (g : GeometricMove) (old : List ℕ) (j : ℕ) {i : ℕ} → At i ≡ found n (turnedBy n g (place n j))
-    → getD old i 0 ≡ whence n g old j
-whence-is n g old j e = ap (λ i. getD old i 0) (found-on n (turnedBy n g (place n j)) e .1)
-
-pub permuted : (n : ℕ) (m : Move) (old : List ℕ) {g : GeometricMove} {new₀ new : List ℕ} {j : ℕ} → g ≡ geometric n (back m)
-    → Filling (whence n g old) new₀ new j → length new ≤ j → length new₀ ≡ stickers n → new ≡ moved n m old
-unfolding moved source target
-permuted n m old {g} {new₀} {new} {j} e f h l =
-    fill-all f h ∙ ap (λ x. tabulate x (whence n g old)) l ∙ ap (λ x. tabulate (stickers n) (whence n x old)) e
 
 -- no refusal
 pub record Good (n : ℕ) (cube work : ℕ) (moves : List ℕ) : Type 0 where
@@ -78,33 +57,34 @@ good-applies {n} {cube} {work} {moves} g =
       list-on n moves (g .size .some),
     )
 
+-- moving asks nothing of the work area
+pub good-cube : {n cube work : ℕ} {moves : List ℕ} → Good n cube work moves → Good n cube cube moves
+good-cube g = record { size = g .size; cube-long = g .cube-long; work-long = g .cube-long; list = g .list }
+
 -- the loop over the moves: what is left of the list, run on the cube as it is now, gives what the whole list gives
-pub record Running (n : ℕ) (moves cube₀ cube work₀ work : List ℕ) (i : ℕ) : Type 0 where
+pub record Running (n : ℕ) (moves cube₀ cube : List ℕ) (i : ℕ) : Type 0 where
   pub most : i ≤ length moves
   pub cube-long : length cube ≡ stickers n
-  pub work-long : length work ≡ stickers n
   pub rest : run n (drop i moves) cube ≡ run n moves cube₀
 
-module _ {n : ℕ} {moves cube₀ work₀ : List ℕ} where
-  pub run-none : length cube₀ ≡ stickers n → length work₀ ≡ stickers n → Running n moves cube₀ cube₀ work₀ work₀ 0
-  run-none a b = record { most = omega arith; cube-long = a; work-long = b; rest = refl }
+module _ {n : ℕ} {moves cube₀ : List ℕ} where
+  pub run-none : length cube₀ ≡ stickers n → Running n moves cube₀ cube₀ 0
+  run-none a = record { most = omega arith; cube-long = a; rest = refl }
 
-  pub run-more : {cube cube′ work work′ : List ℕ} {m : Move} {i : ℕ} → Running n moves cube₀ cube work₀ work i → i < length moves
-      → m ≡ moveOf (getD moves i 0) → cube′ ≡ moved n m cube → length work′ ≡ length work
-      → Running n moves cube₀ cube′ work₀ work′ (i + 1)
+  pub run-more : {cube cube′ : List ℕ} {m : Move} {i : ℕ} → Running n moves cube₀ cube i → i < length moves
+      → m ≡ moveOf (getD moves i 0) → cube′ ≡ moved n m cube → Running n moves cube₀ cube′ (i + 1)
   unfolding run
-  run-more {cube} {cube′} {work} {work′} {m} {i} r h d e l =
+  run-more {cube} {cube′} {m} {i} r h d e =
       let s : drop i moves ≡ getD moves i 0 ∷ drop (i + 1) moves = rw add-one (drop-cons moves i 0 h) in
       record {
         most = omega arith;
         cube-long = ap length e ∙ length-moved n m cube;
-        work-long = l ∙ r .work-long;
         rest = ap (run n (drop (i + 1) moves)) (e ∙ ap (λ x. moved n x cube) d) ∙ ap (λ x. run n x cube) (sym s) ∙ r .rest;
       }
 
-  pub run-all : {cube work : List ℕ} {i : ℕ} → Running n moves cube₀ cube work₀ work i → length moves ≤ i → cube ≡ run n moves cube₀
+  pub run-all : {cube : List ℕ} {i : ℕ} → Running n moves cube₀ cube i → length moves ≤ i → cube ≡ run n moves cube₀
   unfolding run
-  run-all {cube} {work} {i} r h = rw (drop-of-length-le moves h) at (r .rest)
+  run-all {cube} {i} r h = rw (drop-of-length-le moves h) at (r .rest)
 
 -- the entry: refused, and done
 pub apply-refused : (n : ℕ) (cube work moves : List ℕ) {k : ℕ} → k ≡ applyRefusal n (length cube) (length work) moves → (k ≡ 0 → ⊥)

@@ -1,13 +1,13 @@
 -- Laws of solved cubes, the solved test and masks.
-use Prim.Native.Nat.{ℕ, zero, suc, _+_, _-_, _*_, _/_, _<_, _≤_}
-use mathlib.Core.Path.{_≡_, refl, sym, ap, subst, _∙_}
-use mathlib.Core.Bool.{Bool, true, false}
+use Prim.Native.Nat.{ℕ, _+_, _-_, _*_, _/_, _<_, _≤_}
+use mathlib.Core.Path.{_≡_, sym, ap, _∙_}
+use mathlib.Core.Bool.{Bool}
 use mathlib.Core.List.{List, [], _∷_}
 use native.Mathlib.Omega.{arith}
 use native.Mathlib.Nat.{mul-le-mul, mul-le-mul-right, suc-mul, mul-assoc, zero-add}
-use lib.Dec.{ltb, leb, eqb}
+use lib.Dec.{leb, eqb}
 use lib.ListN.{length, getD, take, drop}
-use borrow.Author.Tests.{eqb-true, eqb-false, ne-eqb, eq-eqb, leb-false}
+use borrow.Author.Tests.{eqb-true, ne-eqb, eq-eqb, leb-false}
 use Rattle.ground.specs.Choice.{pick, bool-cases, any, any-none}
 use Rattle.ground.specs.Fill.{tabulate}
 use Rattle.ground.specs.Loops.{Filling, fill-all, Changing}

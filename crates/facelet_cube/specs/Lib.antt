@@ -2,3 +2,11 @@ pub mod Apply
 pub mod ApplyLaws
 pub mod Cube
 pub mod CubeLaws
+pub mod Lane
+pub mod LaneLaws
+pub mod EdgeLaws
+pub mod RingLaws
+pub mod CycleLaws
+pub mod KeyLaws
+pub mod SideLaws
+pub mod InPlaceLaws

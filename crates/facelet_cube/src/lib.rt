@@ -1,29 +1,11 @@
 // Cubes as lists of stickers, and moves of them: facelet_cube/.
 ghost use mathlib.Core.Path.{_≡_};
-ghost use Rattle.geometric_moves.specs.Turn.{back};
-ghost use Rattle.generic_cube.specs.CodeLaws.{Fair};
 ghost use Rattle.facelet_cube.specs.Apply.{applyRefusal};
 
 pub mod cube;
 pub mod ids;
+pub mod lanes;
 pub mod letters;
-
-use generic_cube::Move;
-
-// The move back: a turn of 4 - t.
-fn back_of(n: usize, m: Move) -> Move
-    requires { ⌜ Fair n m ⌝ }
-    ensures { λ r. ⌜ r ≡ back m ⌝ }
-{
-    let kind = m.kind;
-    let width = m.width;
-    let turn = m.turn;
-    Move {
-        kind,
-        width,
-        turn: 4 - turn,
-    }
-}
 
 // The refusal of a list runner on a cube and a work area of these lengths, 0 for none.
 fn apply_refusal(n: usize, cube: usize, work: usize, moves: &[u16]) -> u8

@@ -9,8 +9,8 @@ use native.Mathlib.Nat.{mul-le-mul-right, suc-mul, zero-add, add-zero}
 use lib.Dec.{ltb}
 use lib.ListN.{length, getD, take, drop, set, length-append, take-append-drop}
 use lib.Seq.{sets, sets-eq, length-sets, take-suc, take-all, length-take-le}
-use borrow.Author.Tests.{ltb-false, ltb-true, not-false}
-use Rattle.ground.specs.Choice.{bool-cases, any, any-none}
+use borrow.Author.Tests.{ltb-false, ltb-true}
+use Rattle.ground.specs.Choice.{bool-cases, any}
 use Rattle.generic_cube.specs.Numbers.{sized}
 use Rattle.generic_cube.specs.CodeLaws.{sized-bounds}
 use Rattle.generic_cube.specs.AllMoves.{each, upFrom, movesOf, faceKinds, wideKinds, allMoves, allRefusal, allOut, AllMovesResult}
@@ -177,12 +177,6 @@ all-at p [] e z i = z
 all-at p (x ∷ xs) e z zero = bool-cases (p x) (λ t. t) (λ t. absurd (true≢false (rw t at e)))
 all-at p (x ∷ xs) e z (suc i) =
     all-at p xs (bool-cases (p x) (λ t. rw t at e) (λ t. absurd (true≢false (rw t at e)))) z i
-
--- a test that holds of each number below m
-pub all-below : (p : ℕ → Bool) (m : ℕ) → any (λ x. not (p x)) (upFrom 0 m) ≡ false → (i : ℕ) → i < m → p i ≡ true
-all-below p m e i h =
-    let g : getD (upFrom 0 m) i 0 ≡ i = getD-from 0 m i h ∙ zero-add i in
-    not-false (p i) (rw g at (any-none (λ x. not (p x)) (upFrom 0 m) e i (rw length-from h)))
 
 pub faces-fair : Kinds faceKinds
 unfolding any

@@ -4,7 +4,6 @@ use mathlib.Core.Path.{_≡_, _∙_}
 use mathlib.Core.Bool.{Bool, true, false}
 use mathlib.Core.List.{List, [], _∷_}
 use lib.Dec.{ltb, leb, eqb}
-use lib.ListN.{getD}
 use borrow.Author.Tests.{ne-eqb}
 use Rattle.ground.specs.Choice.{pick}
 use Rattle.generic_cube.specs.declared.Done.{Done}

@@ -1,7 +1,5 @@
 -- The index of a sticker, from its face's letter and its number on that face.
-use Prim.Native.Nat.{ℕ, zero, suc, _+_, _-_, _*_}
-use mathlib.Core.Bool.{Bool, true, false}
-use mathlib.Core.List.{List, [], _∷_}
+use Prim.Native.Nat.{ℕ, _+_, _-_, _*_}
 use lib.Dec.{ltb, eqb}
 use Rattle.ground.specs.Choice.{pick, position}
 use Rattle.generic_cube.specs.Numbers.{sized, letters}

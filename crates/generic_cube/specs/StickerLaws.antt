@@ -1,12 +1,11 @@
 -- What a sticker's number that is not refused says of the sizes on the way to its index.
-use Prim.Native.Nat.{ℕ, _+_, _*_, _<_, _≤_}
+use Prim.Native.Nat.{ℕ, _*_, _≤_}
 use mathlib.Core.Path.{_≡_, sym, subst}
-use mathlib.Core.Bool.{Bool, true, false}
 use native.Mathlib.Omega.{arith}
 use native.Mathlib.Nat.{mul-le-mul}
 use lib.Dec.{ltb, eqb}
 use borrow.Author.Tests.{ltb-false}
-use Rattle.ground.specs.Choice.{pick, bool-cases, position-most}
+use Rattle.ground.specs.Choice.{bool-cases, position-most}
 use Rattle.generic_cube.specs.Numbers.{sized, letters}
 use Rattle.generic_cube.specs.StickerIndex.{faceNumber, stickerRefusal}
 use Rattle.generic_cube.specs.CodeLaws.{sized-bounds}

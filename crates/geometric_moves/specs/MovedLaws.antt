@@ -1,11 +1,11 @@
 -- Laws of moved cubes: the sticker at the old place goes to the turned place, and moves of equal kind and width add up.
-use Prim.Native.Nat.{ℕ, zero, suc, _+_, _-_, _*_, _%_, _<_, _≤_}
-use mathlib.Core.Path.{_≡_, refl, ap, sym, subst, _∙_}
+use Prim.Native.Nat.{ℕ, _+_, _-_, _%_, _<_, _≤_}
+use mathlib.Core.Path.{_≡_, refl, ap, sym, _∙_}
 use mathlib.Core.List.{List, [], _∷_, _++_}
 use native.Mathlib.Omega.{arith}
 use lib.ListN.{length, getD}
 use lib.Seq.{ext-getD}
-use Rattle.ground.specs.Fill.{tabulate, length-tabulate, getD-tabulate}
+use Rattle.ground.specs.Fill.{length-tabulate, getD-tabulate}
 use Rattle.generic_cube.specs.declared.Move.{Move}
 use Rattle.generic_cube.specs.Numbers.{stickers}
 use Rattle.generic_cube.specs.Code.{moveOf}

@@ -1,6 +1,6 @@
 -- Laws of rotations: they compose, quarters about one axis add up, and each is what document 01 says at positions.
-use Prim.Native.Nat.{ℕ, zero, suc, _+_, _-_, _*_, _/_, _%_, _<_, _≤_}
-use mathlib.Core.Path.{_≡_, refl, ap, sym, subst, _∙_}
+use Prim.Native.Nat.{ℕ, zero, suc, _+_, _-_, _*_, _/_, _%_}
+use mathlib.Core.Path.{_≡_, refl, ap, sym, _∙_}
 use native.Mathlib.Omega.{arith}
 use native.Mathlib.Nat.{add-zero, add-suc}
 use Rattle.sticker.specs.declared.Face.{Face}
@@ -9,7 +9,7 @@ use Rattle.sticker.specs.declared.Pos.{Pos}
 use Rattle.sticker.specs.Place.{neg, at3}
 use Rattle.sticker.specs.PlaceLaws.{InCube, pos-eq}
 use Rattle.geometric_moves.specs.declared.Rotation.{Rotation}
-use Rattle.geometric_moves.specs.Turn.{toward, rotate, rot, identity, rotX, rotY, rotZ, opposite, facing, thenRot, sameFace, whither, inverseRot, turnOf, quarterOf}
+use Rattle.geometric_moves.specs.Turn.{toward, rotate, identity, rotX, rotY, rotZ, opposite, facing, thenRot, sameFace, whither, inverseRot, turnOf, quarterOf}
 
 -- the three quarter turns of the type are document 01's
 pub quarter-X : (n : ℕ) (p : Pos) → rotate n rotX p ≡ at3 (p .x) (p .z) (neg n (p .y))
@@ -123,7 +123,7 @@ turn-axis f (suc t) =
 
 -- at positions
 module _ (n : ℕ) (p : Pos) (h : InCube n p) where
-  neg-toward : (f : Face) → neg n (toward n p f) ≡ toward n p (opposite f)
+  pub neg-toward : (f : Face) → neg n (toward n p f) ≡ toward n p (opposite f)
   neg-toward U = refl
   neg-toward R = refl
   neg-toward F = refl

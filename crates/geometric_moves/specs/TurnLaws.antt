@@ -1,10 +1,11 @@
 -- Laws of turns: a turned sticker is a sticker, and turns of the same layers about the same axis add up. The layers are any test
 -- of the coordinate towards the face.
-use Prim.Native.Nat.{ℕ, zero, suc, _+_, _-_, _*_, _/_, _%_, _<_, _≤_}
+use Prim.Native.Nat.{ℕ, zero, suc, _+_, _-_, _*_, _%_, _<_, _≤_}
 use mathlib.Core.Path.{_≡_, refl, ap, sym, subst, _∙_}
 use mathlib.Core.Bool.{Bool, true, false, not, true≢false}
-use mathlib.Core.List.{List, [], _∷_}
+use mathlib.Core.List.{List}
 use native.Mathlib.Omega.{arith}
+use native.Mathlib.Nat.{mul-le-mul, mul-le-mul-right, suc-mul, mul-assoc}
 use lib.Dec.{ltb}
 use Rattle.ground.specs.Choice.{pick, bool-cases, any-never, below-never}
 use Rattle.generic_cube.specs.declared.Move.{Move}
@@ -14,14 +15,12 @@ use Rattle.generic_cube.specs.CodeLaws.{Fair}
 use Rattle.sticker.specs.declared.Face.{Face}
 use Rattle.sticker.specs.declared.Face.the-variants.{U, R, F, D, L, B}
 use Rattle.sticker.specs.declared.Pos.{Pos}
-use Rattle.sticker.specs.declared.Slot.{Slot}
-use Rattle.sticker.specs.declared.Found.{Found}
 use Rattle.sticker.specs.declared.Found.the-variants.{At, NoFace}
-use Rattle.sticker.specs.Place.{neg, mid, seat, placeOf, side, isOn, place, index, found}
-use Rattle.sticker.specs.PlaceLaws.{InCube, Inside, sticker-in, pos-eq, Real, Sticker, sticker-on, found-on, found-off, place-sticker, place-index, index-place, index-below}
+use Rattle.sticker.specs.Place.{mid, seat, placeOf, side, place, index, found}
+use Rattle.sticker.specs.PlaceLaws.{InCube, Inside, sticker-in, pos-eq, Sticker, sticker-on, found-on, found-off, place-sticker, place-index, index-place, index-below}
 use Rattle.geometric_moves.specs.declared.Rotation.{Rotation}
 use Rattle.geometric_moves.specs.declared.GeometricMove.{GeometricMove}
-use Rattle.geometric_moves.specs.Turn.{toward, rotate, rot, identity, rotX, rotY, rotZ, facing, thenRot, sameFace, whither, inverseRot, turnOf, quarterOf, kindFace, widthOf, layer, via, geometric, turnedBy, turned, target, withTurn, back, source, offAt, offFace, listOff}
+use Rattle.geometric_moves.specs.Turn.{toward, rotate, identity, rotX, rotY, rotZ, thenRot, sameFace, whither, inverseRot, turnOf, quarterOf, kindFace, widthOf, layer, via, geometric, turnedBy, turned, target, withTurn, back, offAt, offFace, listOff}
 use Rattle.geometric_moves.specs.RotationLaws.{toward-rotate, rotate-then, turn-add, turn-mod, turn-axis}
 
 -- the sticker in column c and row r of face f
@@ -175,7 +174,7 @@ pub record Kept (n : ℕ) (g : GeometricMove) : Type 0 where
 pub kept-sticker : {n : ℕ} {g : GeometricMove} → Kept n g → (p : Pos) → Sticker n p → Sticker n (turnedBy n g p)
 kept-sticker {n} {g} k p s = via-sticker n (g .face) (layer n (g .width)) (g .rotation) p (k .keeps) s
 
-toward-within : (n : ℕ) (p : Pos) → InCube n p → (f : Face) → toward n p f ≤ 2 * n
+pub toward-within : (n : ℕ) (p : Pos) → InCube n p → (f : Face) → toward n p f ≤ 2 * n
 toward-within n p h U = h .y-in
 toward-within n p h R = h .x-in
 toward-within n p h F = h .z-in
@@ -267,3 +266,21 @@ move-on n m h =
 pub list-on : (n : ℕ) (cs : List ℕ) → 0 < n → listOff n cs ≡ false
 unfolding listOff
 list-on n cs h = any-never (λ c. offFace n (moveOf c)) (λ c. move-on n (moveOf c) h) cs
+
+pub off-none : {n : ℕ} {m : Move} → Sized n → Fair n m → offFace n m ≡ false
+off-none {n} {m} z f = move-on n m (z .some)
+
+-- the first sticker of a face
+pub record First (n k : ℕ) : Type 0 where
+  pub side : n * n ≤ 10816
+  pub within : k * (n * n) < stickers n
+  pub small : k * (n * n) ≤ 64896
+
+pub first : (n k : ℕ) → Sized n → k < 6 → First n k
+first n k z h =
+    let a = mul-le-mul {n₁ = n} {m₁ = n} {n₂ = 104} {m₂ = 104} (z .size) (z .size) in
+    let b = mul-le-mul {n₁ = 1} {m₁ = 1} {n₂ = n} {m₂ = n} (z .some) (z .some) in
+    let d = mul-le-mul-right (n * n) h in
+    let e = suc-mul k (n * n) in
+    let g = mul-assoc 6 n n in
+    record { side = a; within = omega arith; small = omega arith }

@@ -247,7 +247,7 @@ pub fn kind_face(k: usize) -> Face
 }
 
 // The width: 1 for a plain letter, all n layers for X, Y, Z.
-fn width_of(n: usize, kind: usize, width: usize) -> usize
+pub fn width_of(n: usize, kind: usize, width: usize) -> usize
     ensures { λ r. ⌜ r ≡ widthOf n kind width ⌝ }
 {
     if kind < 6 {
@@ -312,35 +312,41 @@ impl GeometricMove {
     }
 }
 
-// Whether a move brings a sticker to a position on no face.
+// Whether a move brings a sticker to a position on no face. The stickers of a face are turned alike: the first of each is looked at.
 fn is_off_face(n: usize, m: Move) -> bool
     requires { ⌜ Sized n × Fair n m ⌝ }
     ensures { λ r. ⌜ r ≡ offFace n m ⌝ }
 {
     let g = GeometricMove::new(n, m);
-    let count = 6 * n * n;
-    let mut j: usize = 0;
-    while j < count {
-        let Found::At(_) = g.target(n, j) else {
+    let side = n * n;
+    let mut k: usize = 0;
+    while k < 6 {
+        let Found::At(_) = g.target(n, k * side) else {
             return true;
         };
-        j += 1;
+        k += 1;
     }
     false
 }
 
-// Refusal 11: whether a move of a list brings a sticker to a position on no face.
+// Refusal 11: whether a move of a list brings a sticker to a position on no face. Moves of equal kind and turn are looked at once.
 pub fn list_off(n: usize, list: &[u16]) -> bool
     requires { ⌜ Sized n × (listRefusal n (now list) ≡ 0) ⌝ }
     ensures { λ r. ⌜ r ≡ listOff n (now (list .entry)) ⌝ }
 {
+    let mut seen: u64 = 0;
     let mut i: usize = 0;
     while i < list.len() {
         let Code::Taken(m) = generic_cube::read_code(list[i]) else {
             return false;
         };
-        if is_off_face(n, m) {
-            return true;
+        let kind = m.kind;
+        let bit = 1u64 << (4 * kind + m.turn);
+        if seen & bit == 0 {
+            if is_off_face(n, m) {
+                return true;
+            }
+            seen = seen | bit;
         }
         i += 1;
     }

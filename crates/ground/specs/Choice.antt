@@ -1,7 +1,7 @@
 -- A choice by a test, and the tests of a whole list.
 use Prim.Native.Nat.{ℕ, zero, suc, _+_, _<_, _≤_}
 use mathlib.Core.Path.{_≡_, refl, ap, sym, _∙_}
-use mathlib.Core.Bool.{Bool, true, false, true≢false}
+use mathlib.Core.Bool.{Bool, true, false, not, true≢false}
 use mathlib.Core.Logic.{⊎-elim}
 use mathlib.Core.List.{List, [], _∷_, _++_, List·Memᴰ, List·Memᴰ·not-nil, List·Memᴰ·cases-cons}
 use native.Mathlib.Numerals.{add-one}
@@ -10,7 +10,7 @@ use native.Mathlib.Nat.{eq-or-lt-of-le}
 use lib.Dec.{eqb}
 use lib.ListN.{length, getD, drop, drop-of-length-le}
 use lib.Seq.{drop-cons}
-use borrow.Author.Tests.{eq-eqb, ne-eqb, eqb-true, eqb-false}
+use borrow.Author.Tests.{eq-eqb, ne-eqb, eqb-true, eqb-false, not-false}
 
 -- the first where the test holds, else the second
 abbrev pub pick {ℓ} : {A : Type ℓ} → Bool → A → A → A
@@ -157,6 +157,10 @@ below-next p j h t = rw (add-one j, t) h
 
 pub below-none : (p : ℕ → Bool) (m : ℕ) → anyBelow p m ≡ false → (j : ℕ) → j < m → p j ≡ false
 below-none p m e j h = bool-cases (p j) (λ t. absurd (true≢false (sym (below-found p j m h t) ∙ e))) (λ t. t)
+
+-- a rule that a computed test shows of every number below m
+pub tested : (p : ℕ → Bool) (m : ℕ) → anyBelow (λ i. not (p i)) m ≡ false → (i : ℕ) → i < m → p i ≡ true
+tested p m e i h = not-false (p i) (below-none (λ k. not (p k)) m e i h)
 
 pub below-never : (p : ℕ → Bool) → ((j : ℕ) → p j ≡ false) → (m : ℕ) → anyBelow p m ≡ false
 unfolding anyBelow

@@ -1,11 +1,11 @@
 -- What a loop that fills a slice from the front keeps true, whatever it fills it with.
 use Prim.Native.Nat.{ℕ, _+_, _<_, _≤_}
-use mathlib.Core.Path.{_≡_, refl, ap, sym, subst, _∙_}
+use mathlib.Core.Path.{_≡_, refl, sym, subst, _∙_}
 use mathlib.Core.List.{List}
 use native.Mathlib.Omega.{arith}
 use lib.ListN.{length, getD, set, length-set, replicate, length-replicate, getD-replicate}
 use lib.Seq.{ext-getD, getD-set-other, set-getD}
-use Rattle.ground.specs.Fill.{tabulate, length-tabulate, tabulated, Filled, filled-none, filled-more}
+use Rattle.ground.specs.Fill.{tabulate, tabulated, Filled, filled-none, filled-more}
 
 -- `l`, once `l₀`, has its first j places done
 pub record Filling (f : ℕ → ℕ) (l₀ l : List ℕ) (j : ℕ) : Type 0 where

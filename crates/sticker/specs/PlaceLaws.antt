@@ -1,7 +1,7 @@
 -- Laws of places: `slotOf` undoes `placeOf`, and `unflat` undoes `flat`, at every size.
 use Prim.Native.Nat.{ℕ, zero, suc, _+_, _-_, _*_, _/_, _%_, _<_, _≤_}
 use mathlib.Core.Path.{_≡_, refl, ap, sym, subst, _∙_}
-use mathlib.Core.Bool.{Bool, true, false}
+use mathlib.Core.Bool.{true, false}
 use native.Mathlib.Omega.{arith}
 use native.Mathlib.Nat.{mul-add-div-right, mul-add-mod-self-right, div-eq-of-lt, mod-eq-of-lt, add-zero, mul-le-mul, mul-le-mul-left, mul-le-mul-right, div-add-mod', mod-lt, div-lt-iff-lt-mul, suc-mul}
 use lib.Dec.{eqb}
@@ -13,9 +13,8 @@ use Rattle.sticker.specs.declared.Side.{Side}
 use Rattle.sticker.specs.declared.Side.the-variants.{On, Nowhere}
 use Rattle.sticker.specs.declared.Pos.{Pos}
 use Rattle.sticker.specs.declared.Slot.{Slot}
-use Rattle.sticker.specs.declared.Found.{Found}
 use Rattle.sticker.specs.declared.Found.the-variants.{At, NoFace}
-use Rattle.sticker.specs.Place.{top, bot, neg, mid, numOf, nthFace, at3, seat, placeOf, side, isOn, faceOn, faceOf, colOn, rowOn, slotOn, slotOf, flat, unflat, place, index, found}
+use Rattle.sticker.specs.Place.{top, bot, neg, mid, numOf, nthFace, seat, placeOf, side, isOn, faceOn, faceOf, colOn, rowOn, slotOn, slotOf, flat, unflat, place, index, found}
 
 -- a coordinate within the face is neither n nor -n, and neither is its negation
 mid-top : (n c : ℕ) → eqb (mid c) (top n) ≡ false
@@ -117,7 +116,7 @@ pub flat-below : (n : ℕ) (s : Slot) → s .col < n → s .row < n → flat n s
 flat-below n s hc hr =
     below n (6 * n) (numOf (s .face) * n + s .row) (s .col) (below n 6 (numOf (s .face)) (s .row) (num-below (s .face)) hr) hc
 
-nth-num : (k : ℕ) → k < 6 → numOf (nthFace k) ≡ k
+pub nth-num : (k : ℕ) → k < 6 → numOf (nthFace k) ≡ k
 nth-num zero h = refl
 nth-num (suc zero) h = refl
 nth-num (suc (suc zero)) h = refl

@@ -8,11 +8,11 @@ use lib.ListN.{length, getD, take, drop, length-append}
 use lib.Seq.{getD-append-seam, getD-append-add, take-append-seam}
 use lib.Dec.{ltb, eqb}
 use borrow.Author.Tests.{eq-eqb, ne-eqb, lt-ltb, le-ltb, lt-leb, eqb-true, eqb-false, ltb-true, ltb-false, not-true}
-use Rattle.ground.specs.Choice.{pick, bool-cases, position, any, any-append}
+use Rattle.ground.specs.Choice.{pick, bool-cases, position, any, any-append, anyBelow, tested}
 use Rattle.generic_cube.specs.Code.{moveOf, isWide, badCode, readCode, outside, refusalIn}
 use Rattle.generic_cube.specs.CodeLaws.{sized-bounds, code-bounds, code-width, inside, Good, AllGood, taken-good}
-use Rattle.generic_cube.specs.AllMoves.{each, upFrom}
-use Rattle.generic_cube.specs.AllMovesLaws.{all-at, all-below}
+use Rattle.generic_cube.specs.AllMoves.{each}
+use Rattle.generic_cube.specs.AllMovesLaws.{all-at}
 use Rattle.generic_cube.specs.declared.Answer.the-variants.{Value, Refused}
 use Rattle.generic_cube.specs.Numbers.{sized, answer}
 use Rattle.scramble_parser.specs.declared.Parsed.{Parsed}
@@ -35,8 +35,8 @@ digit-of d h = simp (le-ltb (48 + d) 48 (omega arith), le-ltb 57 (48 + d) (omega
 
 -- a letter is at its place, and is no digit and no space
 pub letter-place : (p : ℕ) → p < 9 → letterOf (getD kindLetters p 0) ≡ p
-unfolding letterOf position any upFrom
-letter-place p h = eqb-true _ _ (all-below (λ i. eqb (letterOf (getD kindLetters i 0)) i) 9 refl p h)
+unfolding letterOf position anyBelow
+letter-place p h = eqb-true _ _ (tested (λ i. eqb (letterOf (getD kindLetters i 0)) i) 9 refl p h)
 
 letter-digit : (p : ℕ) → digitOf (getD kindLetters p 0) ≡ 10
 unfolding digitOf any

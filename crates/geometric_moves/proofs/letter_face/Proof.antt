@@ -1,6 +1,6 @@
 use Rattle.geometric_moves.specs.Turn.{letterFace}
 use native.Mathlib.Omega.{arith}
-use mathlib.Core.Path.{_≡_, ap, sym, subst, _∙_}
+use mathlib.Core.Path.{_≡_, ap, sym}
 use borrow.Author.Needs.{needs}
 use Rattle.geometric_moves.proofs.letter_face.Statement.{statement}
 use Rattle.geometric_moves.proofs.letter_face.Tie as tie

@@ -1,4 +1,4 @@
-use mathlib.Core.Path.{_≡_, ap, sym, _∙_}
+use mathlib.Core.Path.{ap, sym, _∙_}
 use Rattle.geometric_moves.specs.Turn.{quarterOf}
 use borrow.Author.Needs.{needs}
 use Rattle.geometric_moves.proofs.quarter_of.Statement.{statement}

@@ -1,5 +1,5 @@
 use Rattle.geometric_moves.specs.Turn.{toward}
-use mathlib.Core.Path.{_≡_, ap, sym, subst, _∙_}
+use mathlib.Core.Path.{ap, sym}
 use borrow.Author.Needs.{needs}
 use Rattle.geometric_moves.proofs.toward_of.Statement.{statement}
 use Rattle.geometric_moves.proofs.toward_of.Tie as tie

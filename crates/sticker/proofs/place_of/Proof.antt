@@ -1,7 +1,7 @@
 use native.Mathlib.Omega.{arith}
 use native.Mathlib.Nat.{mod-lt}
-use Prim.Native.Nat.{ℕ, _/_, _%_, _<_}
-use mathlib.Core.Path.{_≡_, ap, sym, subst, _∙_}
+use Prim.Native.Nat.{_/_, _%_, _<_}
+use mathlib.Core.Path.{ap, _∙_}
 use Rattle.sticker.specs.Place.{seat, mid}
 use Rattle.sticker.specs.PlaceLaws.{face-number}
 use borrow.Author.Needs.{needs}

@@ -1,5 +1,5 @@
 use Rattle.sticker.specs.Place.{slotOn}
-use mathlib.Core.Path.{_≡_, ap, sym}
+use mathlib.Core.Path.{ap, sym}
 use borrow.Author.Needs.{needs}
 use Rattle.sticker.proofs.slot_on.Statement.{statement}
 use Rattle.sticker.proofs.slot_on.Tie as tie

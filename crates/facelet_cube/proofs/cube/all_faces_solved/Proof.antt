@@ -1,6 +1,6 @@
 -- `all_faces_solved`: every face passed shows one byte.
 use Prim.Native.Nat.{_-_, _≤_}
-use mathlib.Core.Path.{_≡_, refl, sym, ap, _∙_}
+use mathlib.Core.Path.{_≡_, refl, sym, _∙_}
 use mathlib.Core.List.{[], _∷_}
 use lib.ListN.{length, drop}
 use Rattle.ground.specs.Choice.{all, all-here, all-next, all-end}

@@ -1,4 +1,4 @@
-use mathlib.Core.Path.{_≡_, sym, _∙_}
+use mathlib.Core.Path.{sym, _∙_}
 use borrow.Author.Tests.{eq-eqb, ne-eqb}
 use Rattle.generic_cube.specs.CodeLaws.{sized-bounds}
 use Rattle.sticker.specs.PlaceLaws.{room}

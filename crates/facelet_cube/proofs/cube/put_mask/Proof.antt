@@ -1,9 +1,9 @@
 -- `put_mask`: the first j places are masked, the others as they were.
 use Prim.Native.Nat.{_-_, _+_, _<_}
 use native.Mathlib.Omega.{arith}
-use mathlib.Core.Path.{_≡_, refl, sym, subst, _∙_}
+use mathlib.Core.Path.{sym, subst}
 use mathlib.Core.Logic.{⊎-elim}
-use lib.ListN.{length, getD, length-set}
+use lib.ListN.{length, length-set}
 use Rattle.ground.specs.Loops.{Changing, change-none, change-set, change-keep}
 use Rattle.generic_cube.specs.Numbers.{stickers}
 use Rattle.facelet_cube.specs.CubeLaws.{maskAt, mask-put, mask-gone, mask-stays}

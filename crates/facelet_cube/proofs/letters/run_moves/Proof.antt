@@ -11,23 +11,23 @@ use Rattle.facelet_cube.proofs.letters.run_moves.Statement.{statement}
 use Rattle.facelet_cube.proofs.letters.run_moves.Tie as tie
 
 abbrev Inv-loop : tie.InvT-loop
-Inv-loop n cube₀ work₀ moves i₀ cube work i = Running n moves cube₀ cube work₀ work i
+Inv-loop n cube₀ moves i₀ cube i = Running n moves cube₀ cube i
 
 abbrev μ-loop : tie.MeasureT-loop
-μ-loop n cube₀ work₀ moves i₀ cube work i = length moves - i
+μ-loop n cube₀ moves i₀ cube i = length moves - i
 
 -- the move that was read is the code's, and fair
 read : (c : tie.After-known-told Inv-loop μ-loop) →
     let l = c .before .before .before .before .before .before in
-    let s = l .before .before .before .before in
+    let s = l .before .before .before in
     (c .before .m .given .0 .0 ≡ moveOf (getD (s .args .moves .now) (l .loop .i) 0)) × Fair (s .args .n) (c .before .m .given .0 .0)
 read c =
-    let s = c .before .before .before .before .before .before .before .before .before .before in
+    let s = c .before .before .before .before .before .before .before .before .before in
     list-taken (s .args .n) (s .args .moves .now) (s .pre .list) (s .pre .size .some) (c .before .before .before .before .before .loop-test .taken)
     (sym (c .before .m .given .1) ∙ c .before .before .before .read-code .ensures)
 
 loop-holds : tie.Need-loop-holds Inv-loop μ-loop
-loop-holds c = let p = c .before .before .before .pre in run-none (p .cube-long) (p .work-long)
+loop-holds c = run-none (c .before .before .pre .cube-long)
 
 mul-read-code : tie.Need-mul-read-code Inv-loop μ-loop
 mul-read-code c = omega arith
@@ -45,21 +45,18 @@ enum-told : tie.Need-enum-told Inv-loop μ-loop
 enum-told c = search needs
 
 same-length : tie.Need-same-length Inv-loop μ-loop
-same-length c = c .before .before .before .before .before .loop .inv .cube-long ∙ sym (c .before .before .before .before .before .before .before .before .before .pre .cube-long)
-
-same-length-2 : tie.Need-same-length-2 Inv-loop μ-loop
-same-length-2 c = c .before .before .before .before .before .loop .inv .work-long ∙ sym (c .before .before .before .before .before .before .before .before .before .pre .work-long)
+same-length c = c .before .before .before .before .before .loop .inv .cube-long ∙ sym (c .before .before .before .before .before .before .before .before .pre .cube-long)
 
 returns : tie.Need-returns Inv-loop μ-loop
 returns c =
-    let s = c .before .before .before .before .before .before .before .before .before in
+    let s = c .before .before .before .before .before .before .before .before in
     absurd (list-reads (s .args .n) (s .args .moves .now) (s .pre .list) (c .before .before .before .before .loop-test .taken)
     (sym (c .enum-told .given .1) ∙ c .before .before .read-code .ensures))
 
 apply-move-requires : tie.Need-apply-move-requires Inv-loop μ-loop
 apply-move-requires c κs =
-    let l = c .before .before .before .before .before .before .before .before .loop .inv in
-    record { sized = c .before .before .before .before .before .before .before .before .before .before .before .before .pre .size; fair = read (c .before .before) .1; old-long = l .cube-long; new-long = l .work-long }
+    let l = c .before .before .before .before .before .before .before .loop .inv in
+    record { sized = c .before .before .before .before .before .before .before .before .before .before .pre .size; fair = read (c .before) .1; old-long = l .cube-long; new-long = l .cube-long }
 
 add-i : tie.Need-add-i Inv-loop μ-loop
 add-i c = omega arith
@@ -69,14 +66,10 @@ loop-less c = omega arith
 
 loop-again : tie.Need-loop-again Inv-loop μ-loop
 loop-again c =
-    let a = c .before .before .before .before .apply-move in
-    run-more (c .before .before .before .before .before .before .before .before .before .before .before .before .before .loop .inv) (c .before .before .before .before .before .before .before .before .before .before .before .before .loop-test .taken) (read (c .before .before .before .before .before .before .before) .0) (a .ensures) (a .kept .1 .1 .1 .0)
+    run-more (c .before .before .before .before .before .before .before .before .before .before .loop .inv) (c .before .before .before .before .before .before .before .before .before .loop-test .taken) (read (c .before .before .before .before) .0) (c .before .before .apply-move .ensures)
 
-same-length-3 : tie.Need-same-length-3 Inv-loop μ-loop
-same-length-3 c = c .before .loop .inv .cube-long ∙ sym (c .before .before .before .before .before .pre .cube-long)
-
-same-length-4 : tie.Need-same-length-4 Inv-loop μ-loop
-same-length-4 c = c .before .loop .inv .work-long ∙ sym (c .before .before .before .before .before .pre .work-long)
+same-length-2 : tie.Need-same-length-2 Inv-loop μ-loop
+same-length-2 c = c .before .loop .inv .cube-long ∙ sym (c .before .before .before .before .pre .cube-long)
 
 returns-2 : tie.Need-returns-2 Inv-loop μ-loop
 returns-2 c = run-all (c .before .loop .inv) (c .loop-test .left)
@@ -94,12 +87,10 @@ run-moves-spec =
     enum-known-m
     enum-told
     same-length
-    same-length-2
     returns
     apply-move-requires
     add-i
     loop-less
     loop-again
-    same-length-3
-    same-length-4
+    same-length-2
     returns-2)
