@@ -1,13 +1,13 @@
 -- Laws of what is accepted: each code that is read is one that is taken, and a text holds no more moves than bytes.
-use Prim.Native.Nat.{ℕ, _+_, _-_, _*_, _/_, _%_, _≤_, _<_}
+use Prim.Native.Nat.{ℕ, _+_, _-_, _*_, _/_, _%_, _^_, _≤_, _<_}
 use mathlib.Core.Path.{_≡_, refl, sym, ap, subst}
 use mathlib.Core.Bool.{true, false}
 use mathlib.Core.List.{List, [], _∷_, _++_}
 use native.Mathlib.Omega.{arith}
 use lib.ListN.{length, getD, length-append}
-use lib.Dec.{ltb, eqb}
-use borrow.Author.Tests.{ne-eqb, lt-ltb, le-ltb, eqb-false, ltb-true, ltb-false}
-use Rattle.ground.specs.Choice.{bool-cases, position-most}
+use lib.Dec.{ltb, leb, eqb}
+use borrow.Author.Tests.{ne-eqb, lt-ltb, le-ltb, eqb-true, eqb-false, ltb-true, ltb-false}
+use Rattle.ground.specs.Choice.{pick, bool-cases, position, position-most, anyBelow, tested}
 use Rattle.generic_cube.specs.Code.{isWide, badCode, outside, listRefusal}
 use Rattle.generic_cube.specs.CodeLaws.{Good, AllGood, good-taken, inside}
 use Rattle.scramble_parser.specs.declared.Token.{Token}
@@ -35,6 +35,23 @@ mark-turn b =
 pub letter-below : (b : ℕ) → (letterOf b ≡ 9 → ⊥) → letterOf b < 9
 unfolding letterOf
 letter-below b n = let m : letterOf b ≤ 9 = position-most b kindLetters in omega arith
+
+-- the way to a letter's place by the code: the faces' places are packed by their letters, from B on, three bits each, 7 for none
+unfoldable pub facePlaces : ℕ
+facePlaces = 142989281726541692
+
+abbrev pub packedAt : ℕ → ℕ
+packedAt b = facePlaces / 2 ^ (3 * (b - 66)) % 8
+
+unfoldable pub letterBy : ℕ → ℕ
+letterBy b =
+    pick (ltb b 66) 9
+    (pick (leb b 85) (pick (eqb (packedAt b) 7) 9 (packedAt b))
+    (pick (ltb b 120) 9 (pick (leb b 122) (b - 114) 9)))
+
+pub letter-by : (b : ℕ) → b < 256 → letterBy b ≡ letterOf b
+unfolding facePlaces letterBy letterOf position anyBelow
+letter-by b h = eqb-true _ _ (tested (λ x. eqb (letterBy x) (letterOf x)) 256 refl b h)
 
 -- a digit is 48 and its value
 pub digit-back : (b : ℕ) → (digitOf b ≡ 10 → ⊥) → (b ≡ 48 + digitOf b) × (digitOf b < 10)

@@ -3,7 +3,7 @@ ghost use mathlib.Core.Bool.{true};
 ghost use Prim.Native.Nat.{_<_, _≤_};
 ghost use lib.ListN.{getD};
 ghost use Rattle.generic_cube.specs.Numbers.{sized};
-ghost use Rattle.scramble_parser.specs.Token.{letterOf, isFace, suffixAt, digitOf, digitsOf, numberOf, plainOf, wideOf, startsWide, readToken};
+ghost use Rattle.scramble_parser.specs.Token.{letterOf, suffixAt, digitOf, digitsOf, numberOf, plainOf, wideOf, startsWide, readToken};
 use crate::Mark;
 use crate::Token;
 
@@ -17,22 +17,30 @@ fn at(t: &[u8], i: usize) -> u8
     0
 }
 
+// The places of U L F R B D by their letters, from B on, three bits each; 7 for other letters. A list would be laid out anew for each token.
+const FACES: u64 = 142989281726541692;
+
 // The place of a letter among U L F R B D x y z, 9 for any other byte.
 fn letter(b: u8) -> usize
     ensures { λ r. ⌜ (r ≡ letterOf b) × (r ≤ 9) ⌝ }
 {
-    match b {
-        85 => 0,
-        76 => 1,
-        70 => 2,
-        82 => 3,
-        66 => 4,
-        68 => 5,
-        120 => 6,
-        121 => 7,
-        122 => 8,
-        _ => 9,
+    if b < 66 {
+        return 9;
     }
+    if b <= 85 {
+        let place = (FACES >> (3 * (b - 66))) % 8;
+        if place == 7 {
+            return 9;
+        }
+        return place as usize;
+    }
+    if b < 120 {
+        return 9;
+    }
+    if b <= 122 {
+        return b as usize - 114;
+    }
+    9
 }
 
 fn letter_at(t: &[u8], i: usize) -> usize
