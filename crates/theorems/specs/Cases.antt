@@ -1,8 +1,7 @@
 -- Document 01's cases for every station that are to be proved, together, as a single statement over the definitions.
-use Prim.Native.Nat.{ℕ}
 use mathlib.Core.Path.{_≡_, refl}
-use mathlib.Core.List.{List, [], _∷_}
-use Rattle.ground.specs.Choice.{position, any, pick}
+use mathlib.Core.List.{[], _∷_}
+use Rattle.ground.specs.Choice.{position, any}
 use Rattle.ground.specs.Fill.{tabulate}
 use Rattle.generic_cube.specs.declared.Answer.{Answer}
 use Rattle.generic_cube.specs.declared.Answer.the-variants.{Value}
@@ -10,7 +9,6 @@ use Rattle.generic_cube.specs.Numbers.{sized, answer}
 use Rattle.generic_cube.specs.Code.{codeOf, outside}
 use Rattle.generic_cube.specs.StickerIndex.{stickerRefusal, stickerIndex}
 use Rattle.geometric_moves.specs.Turn.{sameFace, whither, inverseRot, turnOf, quarterOf, kindFace, widthOf, layer, target, source, moved, run}
-use Rattle.scramble_parser.specs.declared.Parsed.{Parsed}
 use Rattle.scramble_parser.specs.declared.Parsed.the-variants.{Moves, RefusedAt}
 use Rattle.scramble_parser.specs.Token.{isSpace, letterOf, isFace, plainKind, markOf, digitOf, isDigit, digitsOf, numberOf, plainOf, wideOf, startsWide, readToken}
 use Rattle.scramble_parser.specs.Words.{words}

@@ -1,23 +1,20 @@
 -- What simplified and inverted lists do to cubes: a simplified list has the input's effect on every cube of the size, and a list followed
 -- by its inverse leaves every cube as it was. Letters and ids alike: a cube is a list of numbers.
-use Prim.Native.Nat.{ℕ, zero, suc, _+_, _-_, _*_, _/_, _%_, _<_, _≤_}
-use mathlib.Core.Path.{_≡_, refl, ap, sym, subst, _∙_}
-use mathlib.Core.Bool.{Bool, true, false}
-use mathlib.Core.List.{List, [], _∷_, _++_}
+use Prim.Native.Nat.{ℕ, _+_, _-_, _*_, _/_, _%_, _<_}
+use mathlib.Core.Path.{_≡_, refl, ap, sym, _∙_}
+use mathlib.Core.List.{List, [], _∷_}
 use native.Mathlib.Omega.{arith}
 use native.Mathlib.Nat.{div-div-eq-div-mul}
-use native.Mathlib.Decide.{ℕ-discrete}
 use lib.Dec.{eqb}
 use lib.ListN.{length}
 use borrow.Author.Tests.{eqb-true, eqb-false}
-use Rattle.ground.specs.Choice.{pick, bool-cases}
-use Rattle.generic_cube.specs.declared.Move.{Move}
+use Rattle.ground.specs.Choice.{bool-cases}
 use Rattle.generic_cube.specs.Numbers.{stickers}
-use Rattle.generic_cube.specs.Code.{moveOf, listRefusal}
-use Rattle.scramble_parser.specs.Lists.{joins, turnSum, joined, join, simplify, Turned, Step, here, there, Steps, done, then, inverseOf, inverse}
+use Rattle.generic_cube.specs.Code.{moveOf}
+use Rattle.scramble_parser.specs.Lists.{turnSum, joined, join, simplify, Turned, Step, here, there, Steps, done, then, inverseOf, inverse}
 use Rattle.scramble_parser.specs.SimplifyLaws.{join-vanish, join-stay, joined-slot, joined-turn}
 use Rattle.geometric_moves.specs.Turn.{withTurn, back, moved, run}
-use Rattle.geometric_moves.specs.MovedLaws.{length-moved, moved-add, moved-none, moved-back, length-run, run-append}
+use Rattle.geometric_moves.specs.MovedLaws.{length-moved, moved-add, moved-none, moved-back, run-append}
 use Rattle.theorems.specs.Simplified.{reached}
 
 -- codes of equal kind and width are one move with other turns

@@ -1,10 +1,8 @@
 -- One possible answer: for each exported function, two outcomes that meet its statement on the same arguments are equal, the answer and
 -- every lent slice.
 use Prim.Native.Nat.{ℕ}
-use mathlib.Core.Path.{_≡_, refl, ap, sym, _∙_}
+use mathlib.Core.Path.{_≡_, ap, sym, _∙_}
 use mathlib.Core.List.{List}
-use Rattle.generic_cube.specs.declared.Done.{Done}
-use Rattle.generic_cube.specs.declared.Answer.{Answer}
 use Rattle.generic_cube.specs.Numbers.{doneNo, answerNo, answerValue, answer, DoneWith}
 use Rattle.generic_cube.specs.AllMoves.{AllMovesResult}
 use Rattle.generic_cube.specs.StickerIndex.{stickerRefusal, stickerIndex}

@@ -1,6 +1,6 @@
 -- The source's order of stickers. It finds the places of a face by rotating the top face (`create_piece_map`): not at all for U, by
 -- X' Y' for R, X' for F, X2 for D, X' Y for L and X' Y2 for B. Document 01's list of places is the same.
-use Prim.Native.Nat.{ℕ, _+_, _-_, _*_, _≤_}
+use Prim.Native.Nat.{ℕ, _-_, _*_, _≤_}
 use mathlib.Core.Path.{_≡_, refl}
 use native.Mathlib.Omega.{arith}
 use Rattle.sticker.specs.declared.Face.{Face}

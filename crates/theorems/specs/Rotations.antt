@@ -1,19 +1,16 @@
 -- The 24 rotations of the cube: the inverse of each undoes it, before and after. The rule is one computed test over all triples of
 -- half axes.
-use Prim.Native.Nat.{ℕ, zero, suc, _+_}
 use mathlib.Core.Path.{_≡_, refl, ap, sym, _∙_}
 use mathlib.Core.Bool.{Bool, true, false, true≢false}
-use mathlib.Core.List.{List, [], _∷_}
-use lib.Dec.{eqb}
 use borrow.Author.Tests.{eqb-true}
-use Rattle.ground.specs.Choice.{pick, bool-cases}
+use Rattle.ground.specs.Choice.{pick}
 use Rattle.sticker.specs.declared.Face.{Face}
 use Rattle.sticker.specs.declared.Face.the-variants.{U, R, F, D, L, B}
 use Rattle.sticker.specs.Place.{numOf, nthFace}
 use Rattle.sticker.specs.PlaceLaws.{num-nth}
 use Rattle.geometric_moves.specs.declared.Rotation.{Rotation}
 use Rattle.geometric_moves.specs.Turn.{rot, identity, rotX, rotY, rotZ, opposite, thenRot, sameFace, whither, inverseRot}
-use Rattle.geometric_moves.specs.RotationLaws.{rot-eq, then-assoc, then-identity}
+use Rattle.geometric_moves.specs.RotationLaws.{rot-eq}
 
 -- a test of every face, of every triple
 abbrev pub allFaces : (Face → Bool) → Bool

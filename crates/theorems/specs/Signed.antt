@@ -1,21 +1,18 @@
 -- Document 01's own coordinates, whole numbers from -n to n, and what its sentences on positions, turns and layers say of them.
 -- A coordinate is held with n added; `signed n c` is the one that it stands for.
-use Prim.Native.Nat.{ℕ, zero, suc, _+_, _-_, _*_, _<_, _≤_}
-use mathlib.Core.Path.{_≡_, refl, ap, sym, subst, _∙_}
-use mathlib.Core.Bool.{Bool, true, false, cond}
+use Prim.Native.Nat.{ℕ, suc, _+_, _-_, _*_, _<_, _≤_}
+use mathlib.Core.Path.{_≡_, refl, ap, sym, _∙_}
+use mathlib.Core.Bool.{true, cond}
 use native.Mathlib.Omega.{arith}
-use native.Mathlib.Decide.{decLt, decLe}
-use lib.Dec.{ltb, leb}
+use native.Mathlib.Decide.{decLt}
 use lib.IntN.{ℤ, pos, negsuc, negℤ, subℕ, _+ℤ_}
-use borrow.Author.Tests.{lt-ltb, le-ltb, le-leb, lt-leb, leb-true}
-use Rattle.ground.specs.Choice.{bool-cases}
+use borrow.Author.Tests.{lt-ltb, le-ltb, le-leb, leb-true}
 use Rattle.sticker.specs.declared.Face.{Face}
 use Rattle.sticker.specs.declared.Face.the-variants.{U, R, F, D, L, B}
 use Rattle.sticker.specs.declared.Pos.{Pos}
 use Rattle.sticker.specs.Place.{top, bot, neg, mid, seat}
 use Rattle.sticker.specs.PlaceLaws.{InCube}
-use Rattle.geometric_moves.specs.declared.Rotation.{Rotation}
-use Rattle.geometric_moves.specs.Turn.{toward, rotate, rotX, rotY, rotZ, layer}
+use Rattle.geometric_moves.specs.Turn.{rotate, rotX, rotY, rotZ, layer}
 
 -- the whole number c - n
 abbrev pub signed : ℕ → ℕ → ℤ

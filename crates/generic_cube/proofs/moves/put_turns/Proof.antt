@@ -1,10 +1,9 @@
 -- `put_turns`: the first i turns are stored.
-use Prim.Native.Nat.{_-_, _+_, _*_, _≤_}
-use mathlib.Core.Path.{_≡_, refl, sym, ap, subst, _∙_}
-use mathlib.Core.List.{List, [], _∷_}
-use lib.ListN.{length}
+use Prim.Native.Nat.{_-_, _+_, _*_}
+use mathlib.Core.Path.{sym, _∙_}
+use mathlib.Core.List.{[], _∷_}
 use Rattle.generic_cube.specs.AllMoves.{upFrom, each}
-use Rattle.generic_cube.specs.AllMovesLaws.{Put, Looped, loop-none, loop-more, loop-all, loop-room, put-length, length-from, length-widths, turn-at}
+use Rattle.generic_cube.specs.AllMovesLaws.{Looped, loop-none, loop-more, loop-all, loop-room, put-length, length-from, length-widths, turn-at}
 use native.Mathlib.Omega.{arith}
 use Rattle.generic_cube.proofs.moves.put_turns.Statement.{statement}
 use Rattle.generic_cube.proofs.moves.put_turns.Tie as tie

@@ -1,8 +1,8 @@
 -- `put_widths`: the first i widths are stored.
 use Prim.Native.Nat.{_-_, _+_, _*_, _≤_}
-use mathlib.Core.Path.{_≡_, refl, sym, ap, _∙_}
+use mathlib.Core.Path.{refl, sym}
 use mathlib.Core.List.{[], _∷_}
-use lib.ListN.{length, length-set}
+use lib.ListN.{length}
 use Rattle.generic_cube.specs.AllMoves.{upFrom}
 use Rattle.generic_cube.specs.AllMovesLaws.{Looped, loop-none, loop-more, loop-all, loop-room, put-one, put-length, length-from, getD-from}
 use native.Mathlib.Omega.{arith}

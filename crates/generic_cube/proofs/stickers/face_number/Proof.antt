@@ -1,6 +1,6 @@
 -- `face_number`: the letter is at none of the places passed.
 use Prim.Native.Nat.{_-_, _+_, _≤_}
-use mathlib.Core.Path.{_≡_, refl, sym, ap, _∙_}
+use mathlib.Core.Path.{_≡_}
 use lib.ListN.{drop}
 use Rattle.ground.specs.Choice.{position, position-here, position-next, position-end}
 use Rattle.generic_cube.specs.Numbers.{letters}

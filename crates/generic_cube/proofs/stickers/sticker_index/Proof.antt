@@ -1,4 +1,4 @@
-use mathlib.Core.Path.{_≡_, sym, ap, _∙_}
+use mathlib.Core.Path.{sym, _∙_}
 use borrow.Author.Tests.{eq-eqb, ne-eqb}
 use Rattle.generic_cube.specs.StickerIndex.{stickerIndex}
 use Rattle.generic_cube.specs.StickerLaws.{Near, near}
