@@ -1,13 +1,18 @@
-// Document 01's cases, run: each line says what was asked, and what the library answered.
+// Document 01's cases, run: each line says what was asked, and what the library answered. Then the crate's answers, replayed.
 use generic_cube::Answer;
 use generic_cube::Done;
 use ida_star::Outcome;
 use libc::STDOUT_FILENO;
 use scramble_parser::Parsed;
 
+mod fields;
 mod ground_floor;
 mod notation;
 mod refusals;
+mod replay;
+mod replay_cubes;
+mod replay_lists;
+mod replay_solving;
 mod solving;
 
 fn write(text: &[u8]) {
@@ -91,4 +96,5 @@ fn main() {
     notation::run();
     solving::run();
     refusals::run();
+    replay::run();
 }

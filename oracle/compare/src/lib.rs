@@ -1,3 +1,5 @@
-//! What the comparison and the benchmarks share.
+//! What the comparison, the replayed list and the benchmarks share.
 pub mod crate_side;
+pub mod grammar;
+pub mod inputs;
 pub mod rng;

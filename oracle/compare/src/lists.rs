@@ -1,5 +1,6 @@
 //! Codes and lists: all_moves, sticker_index, simplify_moves.
 use compare::crate_side::{codes, face, mvs};
+use compare::inputs::joining_list;
 use crate::Tally;
 use compare::rng::Rng;
 
@@ -25,20 +26,10 @@ pub fn sticker_index(tally: &mut Tally) {
     }
 }
 
-/// Lists where each wide kind has one width; of few kinds, so that many join.
 pub fn simplify(tally: &mut Tally, rng: &mut Rng) {
     for round in 0..200_000 {
         let n = 1 + rng.below(12);
-        let widths: Vec<u16> = (0..6).map(|_| 1 + rng.below(n) as u16).collect();
-        let some: Vec<u16> = (0..1 + rng.below(4)).map(|_| rng.below(15) as u16).collect();
-        let length = if round % 100 == 0 { 300 } else { rng.below(14) };
-        let list: Vec<u16> = (0..length)
-            .map(|_| {
-                let kind = *rng.of(&some);
-                let width = if (6..12).contains(&kind) { widths[kind as usize - 6] } else { 0 };
-                width * 64 + kind * 4 + 1 + rng.below(3) as u16
-            })
-            .collect();
+        let list = joining_list(rng, n, round % 100 == 0);
         let crates = codes(&cubesim::simplify_moves(&mvs(&list)));
         let mut out = vec![9u16; list.len()];
         let count = cubesim_proved::simplify_moves(n, &list, &mut out).unwrap();

@@ -1,5 +1,6 @@
 //! Moves on letters and ids, masks, the solved test.
-use compare::crate_side::{faces, ids, letters, mv, mvs, LETTERS};
+use compare::crate_side::{faces, ids, letters, mv, mvs};
+use compare::inputs;
 use crate::Tally;
 use compare::rng::Rng;
 use cubesim::prelude::{Cube, FaceletCube};
@@ -56,7 +57,7 @@ pub fn masks(tally: &mut Tally, rng: &mut Rng) {
         let n = 1 + rng.below(7);
         let length = rng.below(12);
         let list = rng.codes(n, length);
-        let keep: Vec<u8> = (0..6 * n * n).map(|_| rng.below(3) as u8).collect();
+        let keep = inputs::keep(rng, n);
         let masked = FaceletCube::new(n as i32)
             .apply_moves(&mvs(&list))
             .mask(&|i, f| if keep[i as usize] == 0 { cubesim::Face::X } else { f });
@@ -66,16 +67,11 @@ pub fn masks(tally: &mut Tally, rng: &mut Rng) {
     }
 }
 
-/// Solved cubes in other colours, cubes with one sticker changed, and scrambled ones.
+/// Solved cubes in other colours, and cubes with a sticker or two changed.
 pub fn solved(tally: &mut Tally, rng: &mut Rng) {
     for _ in 0..20_000 {
         let n = 1 + rng.below(6);
-        let side = n * n;
-        let mut cube: Vec<u8> = (0..6).flat_map(|_| vec![*rng.of(LETTERS); side]).collect();
-        for _ in 0..rng.below(3) {
-            let at = rng.below(cube.len());
-            cube[at] = *rng.of(LETTERS);
-        }
+        let cube = inputs::painted(rng, n);
         let crates = FaceletCube::from(faces(&cube)).is_solved();
         let here = cubesim_proved::is_solved(n, &cube).unwrap();
         tally.same("is_solved, a cube each", &crates, &here, || format!("size {n}, {cube:?}"));
