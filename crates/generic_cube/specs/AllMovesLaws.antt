@@ -178,13 +178,9 @@ all-at p (x ∷ xs) e z zero = bool-cases (p x) (λ t. t) (λ t. absurd (true≢
 all-at p (x ∷ xs) e z (suc i) =
     all-at p xs (bool-cases (p x) (λ t. rw t at e) (λ t. absurd (true≢false (rw t at e)))) z i
 
-pub faces-fair : Kinds faceKinds
-unfolding any
-faces-fair = record { six = refl; small = λ i. ltb-true _ 15 (all-at (λ k. ltb k 15) faceKinds refl refl i) }
-
-pub wides-fair : Kinds wideKinds
-unfolding any
-wides-fair = record { six = refl; small = λ i. ltb-true _ 15 (all-at (λ k. ltb k 15) wideKinds refl refl i) }
+-- six kinds, by a computed test of the list
+pub kinds-fair : (ks : List ℕ) → length ks ≡ 6 → any (λ k. not (ltb k 15)) ks ≡ false → Kinds ks
+kinds-fair ks six e = record { six = six; small = λ i. ltb-true _ 15 (all-at (λ k. ltb k 15) ks e refl i) }
 
 pub faces-next : {out mid : List ℕ} {r : ℕ} → Put out 0 (movesOf faceKinds (0 ∷ [])) mid r → r ≡ 18
 faces-next p = p .next ∙ omega (arith, length-moves faceKinds (0 ∷ []))

@@ -2,8 +2,9 @@
 use compare::crate_side::{codes, letters, mvs};
 use compare::rng::Rng;
 use cubesim::prelude::open::{ida_star, PruningTable, Solver};
-use cubesim::prelude::{Cube, FaceletCube};
+use cubesim::prelude::{Cube, FaceletCube, Move};
 use std::hint::black_box;
+use std::mem::discriminant;
 use std::time::Instant;
 
 /// The median of several runs, in nanoseconds.
@@ -34,7 +35,7 @@ fn row(job: &str, crates: f64, ours: f64) {
 
 /// A list of face moves, and one with every kind of move.
 fn moving(rng: &mut Rng) {
-    for (n, count, runs) in [(3usize, 1000usize, 41), (7, 1000, 41), (20, 1000, 21), (104, 100, 11)] {
+    for (n, count, runs) in [(3usize, 1000usize, 401), (7, 1000, 401), (20, 1000, 101), (104, 100, 51)] {
         let face: Vec<u16> = (0..count).map(|_| (rng.below(6) * 4 + 1 + rng.below(3)) as u16).collect();
         let any = rng.codes(n.min(6), count);
         for (name, list) in [("face moves", &face), ("moves of all kinds, widths to 6", &any)] {
@@ -95,9 +96,13 @@ fn listing(rng: &mut Rng) {
     row("simplify 1,000 nested pairs of inverses", crates, ours);
 }
 
-fn solving(rng: &mut Rng) {
+fn face_moves() -> Vec<u16> {
+    (0..6).flat_map(|k| (1..4).map(move |t| k * 4 + t)).collect()
+}
+
+fn building() {
     let halves = [2u16, 22, 10, 18, 6, 14];
-    let faces: Vec<u16> = (0..6).flat_map(|k| (1..4).map(move |t| k * 4 + t)).collect();
+    let faces = face_moves();
     let solved = FaceletCube::new(3);
     let start = letters(&solved.state());
     for (name, moves, depth) in [("6 half turns, depth 6", &halves[..], 6usize), ("18 face moves, depth 4", &faces[..], 4), ("6 half turns, depth 8", &halves[..], 8)] {
@@ -110,29 +115,69 @@ fn solving(rng: &mut Rng) {
         });
         row(&format!("table n = 3, {name}, {entries} entries"), crates, ours);
     }
-    // a table of depth 3 for the search, and cubes 5, 6 and 7 moves away
+}
+
+/// How many states a pass of the search visits, a visit being one call of the crate's `dfs`; and whether it ends at a goal.
+fn visits(cube: &FaceletCube, solver: &Solver, last: Option<Move>, left: i32, count: &mut u64) -> bool {
+    *count += 1;
+    if solver.is_solved(cube) {
+        return true;
+    }
+    if left < solver.lower_bound(cube) {
+        return false;
+    }
+    let free = |m: &&Move| last.is_none_or(|l| discriminant(&l) != discriminant(*m));
+    solver.candidate_moves.iter().filter(free).any(|m| visits(&cube.apply_move(*m), solver, Some(*m), left - 1, count))
+}
+
+/// A cube so many moves away, and no fewer.
+fn away(rng: &mut Rng, solver: &Solver, length: usize) -> FaceletCube {
+    loop {
+        let list: Vec<u16> = (0..length).map(|_| (rng.below(6) * 4 + 1 + rng.below(3)) as u16).collect();
+        let cube = FaceletCube::new(3).apply_moves(&mvs(&list));
+        if ida_star(&cube, solver, length as i32 - 1).is_none() {
+            return cube;
+        }
+    }
+}
+
+/// Searches with a table of depth 3, timed per visit.
+fn searching(rng: &mut Rng) {
+    let faces = face_moves();
     let ms = mvs(&faces);
-    let mut entries: Vec<(Vec<u8>, i32)> = PruningTable::new(&[solved.clone()], 3, &ms).entries().iter().map(|(k, v)| (letters(k), *v)).collect();
+    let solver = Solver::new(ms.clone(), PruningTable::new(&[FaceletCube::new(3)], 3, &ms));
+    let mut entries: Vec<(Vec<u8>, i32)> = solver.pruning_table.entries().iter().map(|(k, v)| (letters(k), *v)).collect();
     entries.sort();
     let table: Vec<u8> = entries.iter().flat_map(|(k, v)| k.iter().copied().chain([*v as u8])).collect();
-    let solver = Solver::new(ms.clone(), PruningTable::new(&[solved.clone()], 3, &ms));
-    for length in [5usize, 6] {
-        let list: Vec<u16> = (0..length).map(|i| ((i % 5) * 4 + 1 + rng.below(3)) as u16).collect();
-        let cube = solved.apply_moves(&mvs(&list));
+    for length in [7usize, 8, 9] {
+        let cube = away(rng, &solver, length);
         let from = letters(&cube.state());
+        let mut count = 0;
+        assert!((0..=length as i32).any(|limit| visits(&cube, &solver, None, limit, &mut count)));
         let crates = median(3, || drop(black_box(ida_star(&cube, &solver, length as i32).map(|l| codes(&l)))));
         let (mut work, mut out) = (vec![0u8; (length + 1) * 54], vec![0u16; length]);
         let ours = median(3, || {
             black_box(cubesim_proved::ida_star(3, &from, &table, 3, &faces, length, &mut work, &mut out).unwrap());
         });
-        row(&format!("search n = 3, 18 candidates, table of depth 3, {length} moves away"), crates, ours);
+        let job = format!("a visit of a search n = 3, 18 face moves, table of depth 3, {length} moves away, {count} visits");
+        row(&job, crates / count as f64, ours / count as f64);
+    }
+}
+
+/// Half a second of work, so that the first rows are not timed on a processor that is still waking.
+fn wake() {
+    let (start, cube, ms) = (Instant::now(), FaceletCube::new(3), mvs(&face_moves()));
+    while start.elapsed().as_millis() < 500 {
+        black_box(cube.apply_moves(black_box(&ms)));
     }
 }
 
 fn main() {
     let mut rng = Rng(20261115);
+    wake();
     println!("| job | the crate | here | crate / here |\n|---|---|---|---|");
     moving(&mut rng);
     listing(&mut rng);
-    solving(&mut rng);
+    building();
+    searching(&mut rng);
 }

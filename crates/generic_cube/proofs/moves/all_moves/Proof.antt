@@ -1,11 +1,12 @@
 -- `all_moves`: faces, then wide kinds, where nothing is refused.
-use mathlib.Core.Path.{_≡_, sym, _∙_}
+use mathlib.Core.Path.{_≡_, refl, sym, _∙_}
 use native.Mathlib.Omega.{arith}
 use lib.ListN.{length}
 use borrow.Author.Tests.{ne-eqb}
 use borrow.Author.Needs.{needs}
+use Rattle.ground.specs.Choice.{any}
 use Rattle.generic_cube.specs.AllMoves.{upFrom, allRefusal, allOut}
-use Rattle.generic_cube.specs.AllMovesLaws.{faces-fair, wides-fair, faces-next, all-room, all-stored}
+use Rattle.generic_cube.specs.AllMovesLaws.{kinds-fair, faces-next, all-room, all-stored}
 use Rattle.generic_cube.proofs.moves.all_moves.Statement.{statement}
 use Rattle.generic_cube.proofs.moves.all_moves.Tie as tie
 
@@ -28,9 +29,10 @@ slice-aggregate-put-kinds : tie.Need-slice-aggregate-put-kinds
 slice-aggregate-put-kinds c = search needs
 
 put-kinds-requires : tie.Need-put-kinds-requires
+unfolding any
 put-kinds-requires c κs =
     let r = all-room _ _ (good (c .before .before)) in
-    (omega arith, omega arith, faces-fair)
+    (omega arith, omega arith, kinds-fair _ refl refl)
 
 cast-half : tie.Need-cast-half
 cast-half c =
@@ -41,12 +43,12 @@ slice-aggregate-put-kinds-2 : tie.Need-slice-aggregate-put-kinds-2
 slice-aggregate-put-kinds-2 c = search needs
 
 put-kinds-requires-2 : tie.Need-put-kinds-requires-2
-unfolding upFrom
+unfolding upFrom any
 put-kinds-requires-2 c κs =
     let k = c .before .before .before .before .put-kinds in
     let r = all-room _ _ (good (c .before .before .before .before .before .before .before)) in
     let e = faces-next (k .ensures) in
-    (omega (arith, k .kept .0), omega arith, wides-fair)
+    (omega (arith, k .kept .0), omega arith, kinds-fair _ refl refl)
 
 same-length : tie.Need-same-length
 same-length c = search needs
