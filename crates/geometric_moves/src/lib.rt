@@ -312,7 +312,7 @@ impl GeometricMove {
     }
 }
 
-// Whether a move brings a sticker to a position on no face. The stickers of a face are turned alike: the first of each is looked at.
+// Whether a move brings a sticker to a position on no face. None does, so looking at the first of each face is enough.
 fn is_off_face(n: usize, m: Move) -> bool
     requires { ⌜ Sized n × Fair n m ⌝ }
     ensures { λ r. ⌜ r ≡ offFace n m ⌝ }
