@@ -18,7 +18,7 @@ use Rattle.sticker.specs.declared.Slot.{Slot}
 use Rattle.sticker.specs.Place.{numOf, nthFace, placeOf, flat, unflat}
 use Rattle.sticker.specs.PlaceLaws.{Real, slot-eq, below, num-nth, number-below, flat-unflat, unflat-real}
 use Rattle.geometric_moves.specs.Turn.{toward, opposite, sameFace, kindFace, widthOf, source, moved}
-use Rattle.geometric_moves.specs.RotationLaws.{neg-toward}
+use Rattle.geometric_moves.specs.RotationLaws.{neg-toward, opposite-twice}
 use Rattle.geometric_moves.specs.TurnLaws.{Sized}
 use Rattle.geometric_moves.specs.MovedLaws.{length-moved, getD-moved}
 use Rattle.facelet_cube.specs.Lane.{spots, ringTurned, RingFits}
@@ -69,7 +69,7 @@ module _ (n : ℕ) (m : Move) (z : Sized n) (fair : Fair n m) where
   far-toward e p q g he hp hq d =
       let a = neg-toward n (at n g e p q) (at-in n g e p q hp hq) g in
       let b = seen n g e p q he hp hq .face in
-      let c : opposite g ≡ f = ap opposite d ∙ Rattle.geometric_moves.specs.RotationLaws.opposite-twice f in
+      let c : opposite g ≡ f = ap opposite d ∙ opposite-twice f in
       ap (toward n (at n g e p q)) (sym c) ∙ sym a ∙ omega arith
 
   -- whence each ring's places come

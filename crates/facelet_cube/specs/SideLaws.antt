@@ -5,7 +5,7 @@ use mathlib.Core.Bool.{Bool, true, false, not}
 use native.Mathlib.Omega.{arith}
 use lib.Dec.{ltb, eqb}
 use lib.ListN.{getD}
-use borrow.Author.Tests.{lt-ltb, le-ltb, eqb-true, eq-eqb, ne-eqb, ltb-true}
+use borrow.Author.Tests.{lt-ltb, le-ltb, eqb-true, eq-eqb, ne-eqb, ltb-true, not-true}
 use Rattle.ground.specs.Choice.{pick, bool-cases, anyBelow, tested}
 use Rattle.ground.specs.Sides.{less-cases}
 use Rattle.sticker.specs.declared.Face.{Face}
@@ -91,7 +91,7 @@ edge-opposite f = ltb-true _ _ (pairs (λ x y. ltb 3 (edgeTo x (opposite x))) re
 
 pub opposite-other : (f : Face) → sameFace (opposite f) f ≡ false
 unfolding anyBelow sameFace
-opposite-other f = borrow.Author.Tests.not-true _ (pairs (λ x y. not (sameFace (opposite x) x)) refl f f)
+opposite-other f = not-true _ (pairs (λ x y. not (sameFace (opposite x) x)) refl f f)
 
 -- the lanes of a face's sides start at it
 abbrev sideTest : ℕ → Bool
@@ -220,26 +220,25 @@ quarters {n} ring g z hr hs hg =
           edge = ap edgeAt i ∙ edge-lane ring (faceEdge n g s) hr hs h;
         }
 
-abbrev faceTest : ℕ → Bool
-faceTest i = pick (eqb (i / 4 % 3) 1) (sameFace (faceAt i) (nthFace (i / 12))) true
+-- the face on which a ring lies: the first after the sides is the face's own, the next is the face's opposite
+abbrev ringFace : Face → ℕ → Face
+ringFace f s = pick (eqb s 1) f (opposite f)
 
-abbrev farTest : ℕ → Bool
-farTest i = pick (eqb (i / 4 % 3) 2) (sameFace (faceAt i) (opposite (nthFace (i / 12)))) true
+abbrev faceTest : ℕ → Bool
+faceTest i = pick (eqb (i / 4 % 3) 0) true (sameFace (faceAt i) (ringFace (nthFace (i / 12)) (i / 4 % 3)))
+
+on-face : (f : Face) (s k : ℕ) → 1 ≤ s → s < 3 → faceAt (entry (3 * numOf f + s) k) ≡ ringFace f s
+unfolding anyBelow sameFace ringFaces
+on-face f s k hs h =
+    let a = number-below f _ refl in
+    let i : entry (3 * numOf f + s) k < 72 = omega arith in
+    let e : entry (3 * numOf f + s) k / 4 % 3 ≡ s = omega arith in
+    let x : entry (3 * numOf f + s) k / 12 ≡ numOf f = omega arith in
+    same-face _ _ (unless (tested faceTest 72 refl (entry (3 * numOf f + s) k) i) (ne-eqb _ _ (λ d. let z : s ≡ 0 = sym e ∙ d in absurd (omega arith))))
+    ∙ (λ j. ringFace ((ap nthFace x ∙ num-nth f) j) (e j))
 
 pub own-face : (f : Face) (k : ℕ) → faceAt (entry (3 * numOf f + 1) k) ≡ f
-unfolding anyBelow sameFace ringFaces
-own-face f k =
-    let a = number-below f _ refl in
-    let i : entry (3 * numOf f + 1) k < 72 = omega arith in
-    let s : entry (3 * numOf f + 1) k / 4 % 3 ≡ 1 = omega arith in
-    let x : entry (3 * numOf f + 1) k / 12 ≡ numOf f = omega arith in
-    same-face _ _ (when (tested faceTest 72 refl (entry (3 * numOf f + 1) k) i) (eq-eqb _ _ s)) ∙ ap nthFace x ∙ num-nth f
+own-face f k = on-face f 1 k (omega arith) (omega arith)
 
 pub far-face : (f : Face) (k : ℕ) → faceAt (entry (3 * numOf f + 2) k) ≡ opposite f
-unfolding anyBelow sameFace ringFaces
-far-face f k =
-    let a = number-below f _ refl in
-    let i : entry (3 * numOf f + 2) k < 72 = omega arith in
-    let s : entry (3 * numOf f + 2) k / 4 % 3 ≡ 2 = omega arith in
-    let x : entry (3 * numOf f + 2) k / 12 ≡ numOf f = omega arith in
-    same-face _ _ (when (tested farTest 72 refl (entry (3 * numOf f + 2) k) i) (eq-eqb _ _ s)) ∙ ap opposite (ap nthFace x ∙ num-nth f)
+far-face f k = on-face f 2 k (omega arith) (omega arith)

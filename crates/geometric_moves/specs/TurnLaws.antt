@@ -15,12 +15,12 @@ use Rattle.generic_cube.specs.CodeLaws.{Fair}
 use Rattle.sticker.specs.declared.Face.{Face}
 use Rattle.sticker.specs.declared.Face.the-variants.{U, R, F, D, L, B}
 use Rattle.sticker.specs.declared.Pos.{Pos}
-use Rattle.sticker.specs.declared.Found.the-variants.{At, NoFace}
+use Rattle.sticker.specs.declared.Found.the-variants.{NoFace}
 use Rattle.sticker.specs.Place.{mid, seat, placeOf, side, place, index, found}
-use Rattle.sticker.specs.PlaceLaws.{InCube, Inside, sticker-in, pos-eq, Sticker, sticker-on, found-on, found-off, place-sticker, place-index, index-place, index-below}
+use Rattle.sticker.specs.PlaceLaws.{InCube, Inside, sticker-in, pos-eq, Sticker, sticker-on, found-off, place-sticker, place-index, index-place, index-below}
 use Rattle.geometric_moves.specs.declared.Rotation.{Rotation}
 use Rattle.geometric_moves.specs.declared.GeometricMove.{GeometricMove}
-use Rattle.geometric_moves.specs.Turn.{toward, rotate, identity, rotX, rotY, rotZ, thenRot, sameFace, whither, inverseRot, turnOf, quarterOf, kindFace, widthOf, layer, via, geometric, turnedBy, turned, target, withTurn, back, offAt, offFace, listOff}
+use Rattle.geometric_moves.specs.Turn.{toward, rotate, identity, rotX, rotY, rotZ, thenRot, sameFace, whither, inverseRot, turnOf, quarterOf, kindFace, widthOf, layer, via, geometric, turnedBy, turned, target, withTurn, offAt, offFace, listOff}
 use Rattle.geometric_moves.specs.RotationLaws.{toward-rotate, rotate-then, turn-add, turn-mod, turn-axis}
 
 -- the sticker in column c and row r of face f
@@ -227,14 +227,6 @@ module _ {n : ℕ} {g : GeometricMove} {p : Pos} (j : ℕ) (k : Kept n g) (e : p
   may-find {q} d =
       record { size = k .sized .size; cube = sticker-in n q (subst (Sticker n) (sym d) (kept-sticker k p at-place)) }
 
--- what a target that is looked up says of the sticker at j
-module _ (n : ℕ) (g : GeometricMove) (j : ℕ) where
-  pub target-on : {i : ℕ} → At i ≡ found n (turnedBy n g (place n j)) → offAt n g j ≡ false
-  target-on d = ap not (found-on n (turnedBy n g (place n j)) d .0)
-
-  pub target-off : NoFace ≡ found n (turnedBy n g (place n j)) → offAt n g j ≡ true
-  target-off d = ap not (found-off n (turnedBy n g (place n j)) d)
-
 -- what moving a whole cube asks: a size, a move, and two cubes of that size
 pub record Turnable (n : ℕ) (m : Move) (old new : ℕ) : Type 0 where
   pub sized : Sized n
@@ -242,17 +234,10 @@ pub record Turnable (n : ℕ) (m : Move) (old new : ℕ) : Type 0 where
   pub old-long : old ≡ stickers n
   pub new-long : new ≡ stickers n
 
-pub fair-back : {n : ℕ} {m : Move} → Fair n m → Fair n (back m)
-fair-back f = record { some = omega arith; most = omega arith; kind = f .kind; width = f .width }
-
--- a sticker that is turned is found, at an index of the cube
+-- a sticker that is turned is found
 module _ {n : ℕ} {g : GeometricMove} (j : ℕ) (k : Kept n g) where
   there : Sticker n (turnedBy n g (place n j))
   there = kept-sticker k (place n j) (place-sticker n j (k .sized .some))
-
-  pub target-read : {i : ℕ} → At i ≡ found n (turnedBy n g (place n j)) → i < stickers n
-  target-read {i} e =
-      omega (arith, index-below n (turnedBy n g (place n j)) there, found-on n (turnedBy n g (place n j)) e .1)
 
   pub target-found : NoFace ≡ found n (turnedBy n g (place n j)) → ⊥
   target-found e = true≢false (sym (sticker-on n (turnedBy n g (place n j)) there) ∙ found-off n (turnedBy n g (place n j)) e)
@@ -266,9 +251,6 @@ move-on n m h =
 pub list-on : (n : ℕ) (cs : List ℕ) → 0 < n → listOff n cs ≡ false
 unfolding listOff
 list-on n cs h = any-never (λ c. offFace n (moveOf c)) (λ c. move-on n (moveOf c) h) cs
-
-pub off-none : {n : ℕ} {m : Move} → Sized n → Fair n m → offFace n m ≡ false
-off-none {n} {m} z f = move-on n m (z .some)
 
 -- the first sticker of a face
 pub record First (n k : ℕ) : Type 0 where

@@ -329,7 +329,8 @@ fn is_off_face(n: usize, m: Move) -> bool
     false
 }
 
-// Refusal 11: whether a move of a list brings a sticker to a position on no face. Moves of equal kind and turn are looked at once.
+// Refusal 11: whether a move of a list brings a sticker to a position on no face. Moves of equal kind and turn are looked at
+// once, whatever their widths.
 pub fn list_off(n: usize, list: &[u16]) -> bool
     requires { ⌜ Sized n × (listRefusal n (now list) ≡ 0) ⌝ }
     ensures { λ r. ⌜ r ≡ listOff n (now (list .entry)) ⌝ }

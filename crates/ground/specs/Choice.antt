@@ -151,10 +151,6 @@ below-found p j (suc m) h t =
     less : p m ≡ false → j < m
     less u = ⊎-elim (λ e. absurd (true≢false (sym t ∙ ap p e ∙ u))) (λ l. l) (eq-or-lt-of-le {n = j} {m = m} (omega arith))
 
-pub below-next : (p : ℕ → Bool) (j : ℕ) → anyBelow p j ≡ false → p j ≡ false → anyBelow p (j + 1) ≡ false
-unfolding anyBelow
-below-next p j h t = rw (add-one j, t) h
-
 pub below-none : (p : ℕ → Bool) (m : ℕ) → anyBelow p m ≡ false → (j : ℕ) → j < m → p j ≡ false
 below-none p m e j h = bool-cases (p j) (λ t. absurd (true≢false (sym (below-found p j m h t) ∙ e))) (λ t. t)
 

@@ -1,7 +1,7 @@
 -- `is_off_face`: the turned stickers that are looked at lie on a face, as all of them do.
 use Prim.Native.Nat.{_-_, _≤_}
 use mathlib.Core.Path.{sym, _∙_}
-use Rattle.geometric_moves.specs.TurnLaws.{geometric-kept, target-found, off-none, first}
+use Rattle.geometric_moves.specs.TurnLaws.{geometric-kept, target-found, move-on, first}
 use native.Mathlib.Omega.{arith}
 use borrow.Author.Needs.{needs}
 use Rattle.geometric_moves.proofs.is_off_face.Statement.{statement}
@@ -53,7 +53,7 @@ loop-again : tie.Need-loop-again Inv-loop μ-loop
 loop-again c = omega arith
 
 returns-2 : tie.Need-returns-2 Inv-loop μ-loop
-returns-2 c = let b = c .before .before .before in sym (off-none (b .pre .0) (b .pre .1))
+returns-2 c = let b = c .before .before .before in sym (move-on (b .args .n) (b .args .m) (b .pre .0 .some))
 
 pub is-off-face-spec : {M : Type 1} → statement M
 is-off-face-spec =

@@ -7,7 +7,7 @@ use Rattle.ground.specs.Choice.{any, any-next, any-end}
 use Rattle.generic_cube.specs.Code.{moveOf}
 use Rattle.generic_cube.specs.CodeLaws.{Fair, list-taken, list-reads}
 use Rattle.geometric_moves.specs.Turn.{offFace, listOff}
-use Rattle.geometric_moves.specs.TurnLaws.{off-none}
+use Rattle.geometric_moves.specs.TurnLaws.{move-on}
 use native.Mathlib.Omega.{arith}
 use borrow.Author.Needs.{needs}
 use Rattle.geometric_moves.proofs.list_off.Statement.{statement}
@@ -32,7 +32,7 @@ read c =
 
 -- and brings no sticker off the faces
 on : (c : tie.After-known-told Inv-loop μ-loop) → offFace (c .before .before .before .before .before .before .before .before .args .n) (c .before .m .given .0 .0) ≡ false
-on c = off-none (c .before .before .before .before .before .before .before .before .pre .0) (read c .1)
+on c = let s = c .before .before .before .before .before .before .before .before in move-on (s .args .n) _ (s .pre .0 .some)
 
 loop-holds : tie.Need-loop-holds Inv-loop μ-loop
 unfolding listOff
