@@ -1,10 +1,10 @@
 -- What a loop that fills a slice from the front keeps true, whatever it fills it with.
-use Prim.Native.Nat.{ℕ, _+_, _<_, _≤_}
-use mathlib.Core.Path.{_≡_, refl, sym, subst, _∙_}
-use mathlib.Core.List.{List}
+use Prim.Native.Nat.{ℕ, _+_, _-_, _<_, _≤_}
+use mathlib.Core.Path.{_≡_, refl, sym, ap, subst, _∙_}
+use mathlib.Core.List.{List, _++_, append-assoc}
 use native.Mathlib.Omega.{arith}
-use lib.ListN.{length, getD, set, length-set, replicate, length-replicate, getD-replicate}
-use lib.Seq.{ext-getD, getD-set-other, set-getD}
+use lib.ListN.{length, take, drop, getD, set, length-set, length-append, length-drop, replicate, length-replicate, getD-replicate}
+use lib.Seq.{length-take-le, take-all, take-take, take-add, take-at, ext-getD, getD-set-other, set-getD}
 use Rattle.ground.specs.Fill.{tabulate, tabulated, Filled, filled-none, filled-more}
 
 -- `l`, once `l₀`, has its first j places done
@@ -37,6 +37,36 @@ pub cleared : {l₀ l : List ℕ} {j : ℕ} → Filling (λ k. 0) l₀ l j → l
 cleared {l₀} {l} {j} g h =
     ext-getD 0 l (replicate (length l₀) 0) (g .long ∙ sym (length-replicate (length l₀) 0))
     (λ i k. let e = g .long in g .done i (omega arith) ∙ sym (getD-replicate (length l₀) i 0 0 (omega arith)))
+
+-- two lists of one length, the first j elements of which are the same
+pub record Copying (s l : List ℕ) (j : ℕ) : Type 0 where
+  pub long : length l ≡ length s
+  pub done : take j l ≡ take j s
+
+pub copy-none : {s l : List ℕ} → length l ≡ length s → Copying s l 0
+copy-none e = record { long = e; done = refl }
+
+module _ {s l : List ℕ} {j : ℕ} (c : Copying s l j) where
+  pub copy-less : {i : ℕ} → i ≤ j → Copying s l i
+  copy-less {i} h = record { long = c .long; done = sym (take-take i j l h) ∙ ap (take i) (c .done) ∙ take-take i j s h }
+
+  pub copy-all : length l ≤ j → l ≡ s
+  copy-all h = sym (take-all j l h) ∙ c .done ∙ take-all j s (let e = c .long in omega arith)
+
+  -- the elements up to `end` follow
+  pub copy-part : {part : List ℕ} {end : ℕ} → j ≤ end → end ≤ length l → part ≡ take (end - j) (drop j s)
+      → Copying s (take j l ++ (part ++ drop (end - j) (drop j l))) end
+  copy-part {part} {end} some fits e =
+      let n = end - j in
+      let tail = drop n (drop j l) in
+      let sum : j + n ≡ end = omega arith in
+      let head : length (take j l) ≡ j = length-take-le j l (omega arith) in
+      let mid : length part ≡ n = ap length e ∙ length-take-le n (drop j s) (omega (arith, length-drop j s, c .long)) in
+      let front : length (take j l ++ part) ≡ end = omega (arith, length-append (take j l) part) in
+      record {
+        long = omega (arith, c .long, length-append (take j l) (part ++ tail), length-append part tail, length-drop n (drop j l), length-drop j l);
+        done = ap (take end) (sym (append-assoc (take j l) part tail)) ∙ take-at (take j l ++ part) tail end front ∙ rw (c .done, e, ← take-add j n s, sum);
+      }
 
 -- `l`, once `l₀`, has its first j places done, and the others as they were
 pub record Changing (f : ℕ → ℕ) (l₀ l : List ℕ) (j : ℕ) : Type 0 where

@@ -1,8 +1,10 @@
 ghost use mathlib.Core.Path.{_≡_};
+ghost use Prim.Native.Nat.{_+_, _≤_};
 ghost use lib.ListN.{length, replicate};
+ghost use Rattle.ground.specs.Loops.{Copying};
 
-// The elements of `from`, in order.
-pub fn copy(from: &[u8], to: &mut [u8])
+// Copies a short slice, byte by byte.
+fn copy_short(from: &[u8], to: &mut [u8])
     requires { ⌜ length (now to) ≡ length (now from) ⌝ }
     ensures { λ _. ⌜ now (to .exit) ≡ now (from .entry) ⌝ }
 {
@@ -11,6 +13,60 @@ pub fn copy(from: &[u8], to: &mut [u8])
         to[j] = from[j];
         j += 1;
     }
+}
+
+// The bytes of a slice of sixteen.
+fn block(from: &[u8]) -> [u8; 16]
+    requires { ⌜ length (now from) ≡ 16 ⌝ }
+    ensures { λ r. ⌜ r ≡ now (from .entry) ⌝ }
+{
+    let mut b = [0u8; 16];
+    let mut j: usize = 0;
+    while j < 16 {
+        b[j] = from[j];
+        j += 1;
+    }
+    b
+}
+
+// Writes sixteen bytes over such a slice.
+fn put_block(to: &mut [u8], b: [u8; 16])
+    requires { ⌜ length (now to) ≡ 16 ⌝ }
+    ensures { λ _. ⌜ now (to .exit) ≡ b ⌝ }
+{
+    let mut j: usize = 0;
+    while j < 16 {
+        to[j] = b[j];
+        j += 1;
+    }
+}
+
+// Copies sixteen bytes: all are read before any is written, so that the compiler moves them at once.
+fn copy_block(from: &[u8], to: &mut [u8], at: usize)
+    requires { ⌜ Copying (now from) (now to) at × (at + 16 ≤ length (now to)) ⌝ }
+    ensures { λ _. ⌜ Copying (now (from .entry)) (now (to .exit)) (at + 16) ⌝ }
+{
+    let end = at + 16;
+    let b = block(&from[at..end]);
+    put_block(&mut to[at..end], b);
+}
+
+// The elements of `from`, in order: by blocks of sixteen, the last of which may overlap the one before.
+pub fn copy(from: &[u8], to: &mut [u8])
+    requires { ⌜ length (now to) ≡ length (now from) ⌝ }
+    ensures { λ _. ⌜ now (to .exit) ≡ now (from .entry) ⌝ }
+{
+    if to.len() < 16 {
+        copy_short(from, to);
+        return;
+    }
+    let last = to.len() - 16;
+    let mut j: usize = 0;
+    while j < last {
+        copy_block(from, to, j);
+        j += 16;
+    }
+    copy_block(from, to, last);
 }
 
 // Zeros throughout.

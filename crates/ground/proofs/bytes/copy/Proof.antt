@@ -1,41 +1,54 @@
--- `copy`: what is passed is as in `from`.
-use Prim.Native.Nat.{_-_}
-use mathlib.Core.Path.{refl}
-use lib.ListN.{length, length-set, getD}
-use Rattle.ground.specs.Loops.{Filling, fill-none, fill-more, copied}
+-- `copy`: the first bytes are as in `from`.
+use borrow.Author.Needs.{needs}
 use native.Mathlib.Omega.{arith}
+use Prim.Native.Nat.{_+_, _-_}
+use mathlib.Core.Path.{_≡_, sym, _∙_}
+use lib.ListN.{length}
+use Rattle.ground.specs.Loops.{Copying, copy-none, copy-less, copy-all}
 use Rattle.ground.proofs.bytes.copy.Statement.{statement}
 use Rattle.ground.proofs.bytes.copy.Tie as tie
 
 abbrev Inv-loop : tie.InvT-loop
-Inv-loop from to₀ j₀ to j = Filling (λ k. getD from k 0) to₀ to j
+Inv-loop from to₀ last j₀ to j = (last + 16 ≡ length from) × Copying from to j
 
 abbrev μ-loop : tie.MeasureT-loop
-μ-loop from to₀ j₀ to j = length to - j
+μ-loop from to₀ last j₀ to j = last - j
 
-loop-holds : tie.Need-loop-holds Inv-loop μ-loop
-loop-holds c = fill-none
-
-shared-slice-read-to : tie.Need-shared-slice-read-to Inv-loop μ-loop
-shared-slice-read-to c = omega arith
-
-slice-write-to : tie.Need-slice-write-to Inv-loop μ-loop
-slice-write-to c = omega arith
-
-add-j : tie.Need-add-j Inv-loop μ-loop
-add-j c = omega arith
-
-loop-less : tie.Need-loop-less Inv-loop μ-loop
-loop-less c = simp length-set (omega arith)
-
-loop-again : tie.Need-loop-again Inv-loop μ-loop
-loop-again c = fill-more (c .before .before .loop .inv) (c .before .loop-test .taken) refl
+copy-short-requires : tie.Need-copy-short-requires Inv-loop μ-loop
+copy-short-requires c κs = search needs
 
 same-length : tie.Need-same-length Inv-loop μ-loop
-same-length c = c .before .loop .inv .long
+same-length c = search needs
 
 returns : tie.Need-returns Inv-loop μ-loop
-returns c = copied (c .before .loop .inv) (c .loop-test .left) (c .before .before .pre)
+returns c = c .before .before .copy-short .ensures
+
+sub-last : tie.Need-sub-last Inv-loop μ-loop
+sub-last c = search needs
+
+loop-holds : tie.Need-loop-holds Inv-loop μ-loop
+loop-holds c = (omega arith, copy-none (c .before .before .before .pre))
+
+copy-block-requires : tie.Need-copy-block-requires Inv-loop μ-loop
+copy-block-requires c κs = (c .before .before .loop .inv .1, omega arith)
+
+add-j : tie.Need-add-j Inv-loop μ-loop
+add-j c = search needs
+
+loop-less : tie.Need-loop-less Inv-loop μ-loop
+loop-less c = search needs
+
+loop-again : tie.Need-loop-again Inv-loop μ-loop
+loop-again c = (c .before .before .before .before .before .loop .inv .0, c .before .before .copy-block .ensures)
+
+copy-block-requires-2 : tie.Need-copy-block-requires-2 Inv-loop μ-loop
+copy-block-requires-2 c κs = (copy-less (c .before .before .loop .inv .1) (c .before .loop-test .left), omega arith)
+
+same-length-2 : tie.Need-same-length-2 Inv-loop μ-loop
+same-length-2 c = c .before .before .copy-block2 .ensures .long ∙ sym (c .before .before .before .before .before .before .before .before .before .pre)
+
+returns-2 : tie.Need-returns-2 Inv-loop μ-loop
+returns-2 c = copy-all (c .before .before .copy-block2 .ensures) (omega (arith, c .before .before .before .before .before .loop .inv .0, c .before .before .copy-block2 .ensures .long))
 
 pub copy-spec : {M : Type 1} → statement M
 copy-spec =
@@ -43,11 +56,15 @@ copy-spec =
     (tie.spec
     Inv-loop
     μ-loop
+    copy-short-requires
+    same-length
+    returns
+    sub-last
     loop-holds
-    shared-slice-read-to
-    slice-write-to
+    copy-block-requires
     add-j
     loop-less
     loop-again
-    same-length
-    returns)
+    copy-block-requires-2
+    same-length-2
+    returns-2)
