@@ -3,3 +3,5 @@ pub mod OrderLaws
 pub mod Table
 pub mod TableLaws
 pub mod Asked
+pub mod Entries
+pub mod EntriesLaws
