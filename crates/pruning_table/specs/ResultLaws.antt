@@ -1,6 +1,6 @@
 -- What the refusals leave to build on, and the result in each case.
-use Prim.Native.Nat.{ℕ, _+_, _*_, _%_, _≤_, _<_}
-use mathlib.Core.Path.{_≡_, refl, sym, ap, ap₂, _∙_}
+use Prim.Native.Nat.{ℕ, _%_, _≤_, _<_}
+use mathlib.Core.Path.{_≡_, refl, ap, ap₂, _∙_}
 use mathlib.Core.Bool.{Bool, true, false, not}
 use mathlib.Core.List.{List, _++_, append-nil}
 use native.Mathlib.Omega.{arith}
@@ -14,10 +14,13 @@ use Rattle.generic_cube.specs.Code.{listRefusal}
 use Rattle.generic_cube.specs.CodeLaws.{small-bounds, in-reach}
 use Rattle.generic_cube.specs.declared.Answer.the-variants.{Value, Refused}
 use Rattle.table.specs.Table.{entries}
-use Rattle.pruning_table.specs.Built.{Entry, bytes, tableOf, earlyRefusal, pruningRefusal, pruningOut, over, PruningTableResult}
-use Rattle.pruning_table.specs.Held.{held, Grew, Ready}
-use Rattle.pruning_table.specs.HeldLaws.{length-held, bytes-held, held-long, length-bytes, room-bytes}
-use Rattle.pruning_table.specs.StageLaws.{grew-room}
+use Rattle.pruning_table.specs.Built.{tableOf, startsOf, earlyRefusal, pruningRefusal, pruningOut, PruningTableResult}
+use Rattle.pruning_table.specs.AddLaws.{sorted-rising}
+use Rattle.pruning_table.specs.Exact.{movedBy, Start, Exactly}
+use Rattle.pruning_table.specs.ExactLaws.{over-exact, one-buffer}
+use Rattle.pruning_table.specs.CountLaws.{built-counts, built-sorted, counts-exact}
+use Rattle.pruning_table.specs.RisingLaws.{exact-count}
+use Rattle.pruning_table.specs.Inner.{Ready}
 
 -- a test that leads to no refusal fails, and what follows it refuses nothing
 passed : (b : Bool) (k rest : ℕ) → (k ≡ 0 → ⊥) → pick b k rest ≡ 0 → (b ≡ false) × (rest ≡ 0)
@@ -28,7 +31,7 @@ listed : (r rest : ℕ) → pick (not (eqb r 0)) r rest ≡ 0 → (r ≡ 0) × (
 listed r rest e = bool-cases (eqb r 0) (λ t. (eqb-true r 0 t, rw t at e)) (λ t. absurd (eqb-false r 0 t (rw t at e)))
 
 -- what is known where nothing was refused
-pub early-ready : (n starts : ℕ) (moves : List ℕ) (depth : ℕ) → earlyRefusal n starts moves depth ≡ 0 → Ready n depth moves (stickers n) (stickers n)
+pub early-ready : (n starts : ℕ) (moves : List ℕ) (depth : ℕ) → earlyRefusal n starts moves depth ≡ 0 → Ready n depth moves (stickers n)
 unfolding earlyRefusal
 early-ready n starts moves depth e =
     let a = passed (not (small n)) 1 _ (λ q. omega arith) e in
@@ -37,25 +40,10 @@ early-ready n starts moves depth e =
     let d = passed (beyond (length moves) 0 depth) 7 _ (λ q. omega arith) (l .1) in
     let size = small-bounds n (not-false (small n) (a .0)) in
     record {
-      some = size .0;
-      size = size .1;
-      good = l .0;
+      turning = record { some = size .0; size = size .1; good = l .0; next-long = refl };
+      few = in-reach (length moves) 0 depth (d .0) .few;
       shallow = in-reach (length moves) 0 depth (d .0) .shallow;
-      cube-long = refl;
-      next-long = refl;
     }
-
--- a slice that grew from no entry is the bytes of the entries over what it was
-pub grew-bytes : {m count : ℕ} {table : List Entry} {t t′ : List ℕ} → Grew m table t 0 t′ count → t′ ≡ over (bytes table) t
-grew-bytes {m} {count} {table} {t} {t′} g =
-    let fit = room-bytes m count t′ (g .ordered .room) in
-    let long : length (bytes table) ≡ count * (m + 1) =
-    ap (λ (l : List Entry). length (bytes l)) (sym (g .holds)) ∙ length-bytes m (held m count t′) (held-long m count t′ fit)
-    ∙ ap (λ (k : ℕ). k * (m + 1)) (length-held m count t′) in
-    sym (bytes-held m count t′ fit) ∙ ap₂ (λ (l : List Entry) (r : List ℕ). bytes l ++ r) (g .holds) (g .past ∙ ap (λ (k : ℕ). drop k t) (sym long))
-
-pub grew-count : {m count : ℕ} {table : List Entry} {t t′ : List ℕ} → Grew m table t 0 t′ count → length table ≡ count
-grew-count {m} {count} {t′ = t′} g = ap length (sym (g .holds)) ∙ length-held m count t′
 
 -- a slice that was cleared from its front to its end
 pub wiped : {ys : List ℕ} (t t′ : List ℕ) → ys ≡ replicate (length (take (length t′) t′)) 0 → length t′ ≡ length t
@@ -84,14 +72,16 @@ module _ (n : ℕ) (starts moves : List ℕ) (depth : ℕ) (t : List ℕ) where
           written = f ∙ simp (eq-eqb _ _ e, lt-ltb _ _ h);
         }
 
-    -- of a table
-    pub result-built : {t′ : List ℕ} {count : ℕ} → Grew (stickers n) (tableOf n starts moves depth) t 0 t′ count
-        → PruningTableResult n starts moves depth t t′ (Value count)
+    -- of a table that meets the rule
+    pub result-exact : {t′ : List ℕ} {count : ℕ} → 0 < stickers n → Exactly n starts moves depth t t′ count → PruningTableResult n starts moves depth t t′ (Value count)
     unfolding pruningRefusal pruningOut
-    result-built {t′} {count} g =
-        let c = grew-count g in
-        let few : length (tableOf n starts moves depth) ≤ entries (stickers n) t = omega (arith, grew-room g) in
+    result-exact {t′} {count} some x =
+        let table = tableOf n starts moves depth in
+        let c : count ≡ length table =
+        exact-count (movedBy n) moves (Start n starts) (x .rising) (sorted-rising table (built-sorted n (startsOf n starts) moves depth)) (x .exact)
+        (counts-exact n (startsOf n starts) moves (built-counts n (startsOf n starts) moves depth)) in
+        let few : length table ≤ entries (stickers n) t = omega (arith, c, x .room) in
         record {
-          answered = ap Value (sym c) ∙ simp (eq-eqb _ _ e, le-ltb _ _ few);
-          written = grew-bytes g ∙ simp (eq-eqb _ _ e, le-ltb _ _ few);
+          answered = ap Value c ∙ simp (eq-eqb _ _ e, le-ltb _ _ few);
+          written = one-buffer x (over-exact n starts moves depth some t few) ∙ simp (eq-eqb _ _ e, le-ltb _ _ few);
         }

@@ -21,11 +21,6 @@ tag-same Less h = absurd (omega (arith, h))
 tag-same Same h = refl
 tag-same More h = absurd (omega (arith, h))
 
-pub tag-more : (o : Order) → OneOf (2 ∷ []) (tagOf the-type o) → o ≡ More
-tag-more Less h = absurd (omega (arith, h))
-tag-more Same h = absurd (omega (arith, h))
-tag-more More h = refl
-
 pub tag-not-less : (o : Order) → OneOf (1 ∷ 2 ∷ []) (tagOf the-type o) → isLess o ≡ false
 tag-not-less Less h = absurd (⊎-elim (λ e. omega (arith, e)) (λ e. omega (arith, e)) h)
 tag-not-less Same h = refl

@@ -4,7 +4,7 @@ use mathlib.Core.Path.{_≡_}
 use mathlib.Core.Bool.{true}
 use mathlib.Core.List.{List}
 use lib.ListN.{length}
-use Rattle.table.specs.Table.{keyAt, entries, wellFormed, Rising}
+use Rattle.table.specs.Table.{entries, wellFormed}
 
 -- entry i is there
 pub record Held (m : ℕ) (table : List ℕ) (i : ℕ) : Type 0 where
@@ -17,10 +17,3 @@ pub record Lookup (m : ℕ) (table : List ℕ) (depth : ℕ) (key : List ℕ) : 
   pub shallow : depth ≤ 20
   pub long : length key ≡ m
   pub formed : wellFormed m table ≡ true
-
--- a key can be sought among the first `count` keys
-pub record Seekable (m : ℕ) (table : List ℕ) (count : ℕ) (key : List ℕ) : Type 0 where
-  pub short : m < 1000
-  pub room : count ≤ entries m table
-  pub long : length key ≡ m
-  pub rising : Rising (keyAt m table) count

@@ -7,9 +7,8 @@ use native.Mathlib.Omega.{arith}
 use lib.ListN.{length, take, drop, getD, length-append, length-drop, take-append-drop}
 use lib.Seq.{length-take-le, take-at, drop-at, take-append-le, drop-append-le, take-take, drop-drop, getD-take, getD-drop}
 use Rattle.ground.specs.Sides.{order-cases}
-use Rattle.table.specs.Table.{keyAt, numberAt, Rising}
-use Rattle.table.specs.OrderLaws.{less-other}
-use Rattle.table.specs.Entries.{entryAt, written, Distinct}
+use Rattle.table.specs.Table.{keyAt, numberAt}
+use Rattle.table.specs.Entries.{entryAt, written}
 
 -- the key, the number and the length of an entry
 pub entry-key : (m : ℕ) (t : List ℕ) (i : ℕ) → keyAt m t i ≡ take m (entryAt m t i)
@@ -65,11 +64,3 @@ module _ (m i : ℕ) (e t : List ℕ) (long : length e ≡ m + 1) (fits : i * (m
       let from : (l : List ℕ) → drop (k * (m + 1)) l ≡ drop (k * (m + 1) - (i * (m + 1) + (m + 1))) (drop (i * (m + 1) + (m + 1)) l) =
       λ l. ap (λ (n : ℕ). drop n l) (sym past) ∙ sym (drop-drop (k * (m + 1) - (i * (m + 1) + (m + 1))) (i * (m + 1) + (m + 1)) l) in
       ap (take (m + 1)) (from (written m i e t) ∙ ap (drop (k * (m + 1) - (i * (m + 1) + (m + 1)))) written-past ∙ sym (from t)))
-
-  pub written-other : (k : ℕ) → (k ≡ i → ⊥) → k * (m + 1) + (m + 1) ≤ length t → entryAt m (written m i e t) k ≡ entryAt m t k
-  written-other k other h = written-elsewhere k other
-
--- keys that rise are no two the same
-pub rising-distinct : (key : ℕ → List ℕ) (n : ℕ) → Rising key n → Distinct key n
-unfolding Rising
-rising-distinct key n up i j lt h = less-other (key i) (key j) (up i j lt h)

@@ -1,5 +1,5 @@
 -- The order of keys is a strict order, and a walk along two keys finds it.
-use mathlib.Core.Path.{_≡_, refl, sym, ap₂, subst, _∙_}
+use mathlib.Core.Path.{_≡_, refl, sym, ap₂, _∙_}
 use mathlib.Core.List.{List, [], _∷_}
 use mathlib.Core.Bool.{true, false, true≢false}
 use Prim.Native.Nat.{ℕ, _+_, _≤_, _<_}
@@ -94,17 +94,6 @@ less-trans (a ∷ x) (b ∷ y) (c ∷ z) p q = go (less-trans x y z) (view a b x
 pub less-irrefl : (x : List ℕ) → orderOf x x ≡ Less → ⊥
 less-irrefl x e = less-same (sym e ∙ eq-same x)
 
-pub less-flip : (x y : List ℕ) → orderOf x y ≡ Less → orderOf y x ≡ More
-less-flip x y h = go (orderOf y x) refl
-  where
-    go : (o : Order) → orderOf y x ≡ o → o ≡ More
-    go Less e = absurd (less-irrefl x (less-trans x y x h e))
-    go Same e = absurd (less-irrefl x (subst (λ (z : List ℕ). orderOf x z ≡ Less) (same-eq y x e) h))
-    go More e = refl
-
-pub less-other : (x y : List ℕ) → orderOf x y ≡ Less → x ≡ y → ⊥
-less-other x y e h = less-irrefl x (subst (λ (z : List ℕ). orderOf x z ≡ Less) (sym h) e)
-
 -- which order a test says
 pub is-less : (o : Order) → isLess o ≡ true → o ≡ Less
 is-less Less e = refl
@@ -114,14 +103,6 @@ is-less More e = absurd (true≢false (sym e))
 -- a key that is not the same, either way round
 pub less-not-same : (x y : List ℕ) → orderOf x y ≡ Less → isSame (orderOf x y) ≡ false
 less-not-same x y h = rw h
-
-pub flip-not-same : (x y : List ℕ) → orderOf y x ≡ Less → isSame (orderOf x y) ≡ false
-flip-not-same x y h = go (orderOf x y) refl
-  where
-    go : (o : Order) → orderOf x y ≡ o → isSame o ≡ false
-    go Less e = refl
-    go Same e = absurd (less-other y x h (sym (same-eq x y e)))
-    go More e = refl
 
 -- a walk along two keys that comes to place i
 order-step : (x y : List ℕ) (i : ℕ) → i < length x → i < length y

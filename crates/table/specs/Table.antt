@@ -1,5 +1,5 @@
 -- A table: an entry is the m bytes of a cube, its key, and one byte, its number; entries stand in rising order of those bytes.
-use Prim.Native.Nat.{ℕ, zero, suc, _+_, _-_, _*_, _/_, _%_, _≤_, _<_}
+use Prim.Native.Nat.{ℕ, zero, suc, _+_, _-_, _*_, _/_, _%_, _<_}
 use mathlib.Core.Path.{_≡_}
 use mathlib.Core.Bool.{Bool, true, false}
 use mathlib.Core.List.{List}
@@ -7,8 +7,6 @@ use lib.Dec.{eqb}
 use lib.ListN.{length, take, drop, getD}
 use Rattle.ground.specs.Choice.{pick}
 use Rattle.table.specs.declared.Order.the-variants.{Less}
-use Rattle.table.specs.declared.Spot.{Spot}
-use Rattle.table.specs.declared.Spot.the-variants.{At, Gap}
 use Rattle.table.specs.Order.{orderOf, isSame, isLess}
 
 -- the key and the number of entry i
@@ -43,14 +41,3 @@ wellFormed m table = pick (eqb (length table % (m + 1)) 0) (rises (keyAt m table
 -- the same told of n keys: each is less than every later one
 unfoldable pub Rising : (ℕ → List ℕ) → ℕ → Type 0
 Rising key n = (i j : ℕ) → i < j → j < n → orderOf (key i) (key j) ≡ Less
-
--- of n keys those before i are less than s, and s is less than the others
-pub record Between (key : ℕ → List ℕ) (n : ℕ) (s : List ℕ) (i : ℕ) : Type 0 where
-  pub most : i ≤ n
-  pub before : (j : ℕ) → j < i → orderOf (key j) s ≡ Less
-  pub after : (j : ℕ) → i ≤ j → j < n → orderOf s (key j) ≡ Less
-
--- where s stands among n keys, or before which of them it would
-abbrev pub Sought : (ℕ → List ℕ) → ℕ → List ℕ → Spot → Type 0
-Sought key n s (At i) = (i < n) × (key i ≡ s)
-Sought key n s (Gap i) = Between key n s i

@@ -12,12 +12,11 @@ use lib.ListN.{length, drop, length-drop}
 use lib.Seq.{length-take-le}
 use borrow.Author.Tests.{eq-eqb, ne-eqb}
 use Rattle.ground.specs.Choice.{pick}
-use Rattle.ground.specs.Sides.{less-cases}
-use Rattle.table.specs.declared.Order.the-variants.{Less, Same, More}
+use Rattle.table.specs.declared.Order.the-variants.{Less, Same}
 use Rattle.table.specs.Order.{orderOf, isSame, isLess}
-use Rattle.table.specs.OrderLaws.{order-split, same-eq, eq-same, more-flip, less-trans, is-less, less-not-same, flip-not-same}
+use Rattle.table.specs.OrderLaws.{order-split, same-eq, eq-same, less-trans, is-less, less-not-same}
 use Rattle.table.specs.Asked.{Held}
-use Rattle.table.specs.Table.{keyAt, numberAt, entries, look, rises, numberOf, wellFormed, Rising, Between}
+use Rattle.table.specs.Table.{keyAt, numberAt, entries, look, rises, numberOf, wellFormed, Rising}
 
 -- an entry lies within its table
 pub fits : (m i : ℕ) (t : List ℕ) → i < entries m t → i * (m + 1) + (m + 1) ≤ length t
@@ -137,7 +136,7 @@ rising-formed m t e up =
     rw (eq-eqb (length t % (m + 1)) 0 e)
     (rising-rises (keyAt m t) 0 (entries m t - 1) (λ j le lt. up j (suc j) (omega arith) (omega arith)))
 
--- what a lookup gives where the key stands, and where it does not
+-- what a lookup gives where the key stands
 look-hit : (k : ℕ → List ℕ) (v : ℕ → ℕ) (s : List ℕ) (d i n j : ℕ) → i ≤ j → j < i + n → orderOf (k j) s ≡ Same
     → ((a : ℕ) → i ≤ a → a < j → isSame (orderOf (k a) s) ≡ false) → look k v s d i n ≡ v j
 unfolding look
@@ -147,39 +146,13 @@ look-hit k v s d i (suc n) j le lt h b =
     (λ (g : i < j). rw (b i (omega arith) g) (look-hit k v s d (suc i) n j g (omega arith) h (λ a p q. b a (omega arith) q)))
     (eq-or-lt-of-le le)
 
-look-miss : (k : ℕ → List ℕ) (v : ℕ → ℕ) (s : List ℕ) (d i n : ℕ)
-    → ((a : ℕ) → i ≤ a → a < i + n → isSame (orderOf (k a) s) ≡ false) → look k v s d i n ≡ d
-unfolding look
-look-miss k v s d i zero b = refl
-look-miss k v s d i (suc n) b =
-    rw (b i (omega arith) (omega arith)) (look-miss k v s d (suc i) n (λ a p q. b a (omega arith) (omega arith)))
-
--- n keys that rise: where a key stands, what a lookup reads; halving
+-- n keys that rise: what a lookup reads where a key stands
 module _ (k : ℕ → List ℕ) (v : ℕ → ℕ) (s : List ℕ) (n : ℕ) (up : Rising k n) where
   pub look-found : (d j : ℕ) → j < n → k j ≡ s → look k v s d 0 n ≡ v j
   unfolding Rising
   look-found d j lt e =
       look-hit k v s d 0 n j (omega arith) (omega arith) (subst (λ (x : List ℕ). orderOf (k j) x ≡ Same) e (eq-same (k j)))
       (λ a p q. less-not-same (k a) s (subst (λ (z : List ℕ). orderOf (k a) z ≡ Less) e (up a j q lt)))
-
-  pub look-absent : (d i : ℕ) → Between k n s i → look k v s d 0 n ≡ d
-  look-absent d i b =
-      look-miss k v s d 0 n
-      (λ a p q. less-cases a i (λ lt. less-not-same (k a) s (b .before a lt)) (λ ge. flip-not-same (k a) s (b .after a ge (omega arith))))
-
--- halving: what a key in the middle tells of those on one side of it
-module _ (k : ℕ → List ℕ) (s : List ℕ) (n : ℕ) (up : Rising k n) (mid : ℕ) where
-  pub half-less : mid < n → orderOf (k mid) s ≡ Less → (i : ℕ) → i < mid + 1 → orderOf (k i) s ≡ Less
-  unfolding Rising
-  half-less lt e i le =
-      ⊎-elim (λ (h : i ≡ mid). subst (λ (a : ℕ). orderOf (k a) s ≡ Less) (sym h) e)
-      (λ (h : i < mid). less-trans (k i) (k mid) s (up i mid h lt) e) (eq-or-lt-of-le (omega arith))
-
-  pub half-more : orderOf (k mid) s ≡ More → (i : ℕ) → mid ≤ i → i < n → orderOf s (k i) ≡ Less
-  unfolding Rising
-  half-more e i le lt =
-      ⊎-elim (λ (h : mid ≡ i). subst (λ (a : ℕ). orderOf s (k a) ≡ Less) h (more-flip (k mid) s e))
-      (λ (h : mid < i). less-trans s (k mid) (k i) (more-flip (k mid) s e) (up mid i h lt)) (eq-or-lt-of-le le)
 
 -- a lookup finds the key, or gives what it gives where there is none
 pub look-cases {ℓ} : {A : Type ℓ} (k : ℕ → List ℕ) (v : ℕ → ℕ) (s : List ℕ) (d i n : ℕ) → ((j : ℕ) → i ≤ j → j < i + n → k j ≡ s → A)

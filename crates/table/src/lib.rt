@@ -4,20 +4,14 @@ ghost use mathlib.Core.Path.{_≡_};
 ghost use Prim.Native.Nat.{_<_};
 ghost use lib.ListN.{length};
 ghost use Rattle.table.specs.Order.{orderOf};
-ghost use Rattle.table.specs.Table.{keyAt, numberAt, numberOf, wellFormed, Sought};
-ghost use Rattle.table.specs.Asked.{Held, Lookup, Seekable};
+ghost use Rattle.table.specs.Table.{keyAt, numberAt, numberOf, wellFormed};
+ghost use Rattle.table.specs.Asked.{Held, Lookup};
 
 // How two keys stand, byte by byte from the front.
 pub enum Order {
     Less,
     Same,
     More,
-}
-
-// Where a key stands among others, or before which of them it would.
-pub enum Spot {
-    At(usize),
-    Gap(usize),
 }
 
 pub fn compare(a: &[u8], b: &[u8]) -> Order
@@ -97,29 +91,4 @@ pub fn is_well_formed(table: &[u8], m: usize) -> bool
         }
     }
     true
-}
-
-// Where a key stands among the first `count` keys, found by halving.
-pub fn seek(table: &[u8], m: usize, count: usize, key: &[u8]) -> Spot
-    requires { ⌜ Seekable m (now table) count (now key) ⌝ }
-    ensures { λ r. ⌜ Sought (keyAt m (now (table .entry))) count (now (key .entry)) r ⌝ }
-{
-    let mut low = 0;
-    let mut high = count;
-    while low < high {
-        let mid = low + (high - low) / 2;
-        let order = compare(key_at(table, m, mid), key);
-        match order {
-            Order::Same => {
-                return Spot::At(mid);
-            }
-            Order::Less => {
-                low = mid + 1;
-            }
-            Order::More => {
-                high = mid;
-            }
-        }
-    }
-    Spot::Gap(low)
 }

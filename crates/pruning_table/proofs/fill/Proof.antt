@@ -1,6 +1,6 @@
--- `fill`: two cubes of that size fit into 294 bytes.
-use mathlib.Core.Path.{sym}
+-- `fill`: a cube of that size fits into 294 bytes.
 use native.Mathlib.Omega.{arith}
+use mathlib.Core.Path.{sym}
 use Rattle.generic_cube.specs.CodeLaws.{small-cube}
 use Rattle.pruning_table.specs.SizeLaws.{cube-part}
 use borrow.Author.Needs.{needs}
@@ -11,27 +11,22 @@ mul-m : tie.Need-mul-m
 mul-m c = search needs
 
 mul-m-2 : tie.Need-mul-m-2
-mul-m-2 c = omega (arith, small-cube _ (c .before .before .before .pre .size))
+mul-m-2 c = omega (arith, small-cube _ (c .before .before .before .pre .turning .size))
 
 cast-build : tie.Need-cast-build
 cast-build c = search needs
 
-array-borrow-prefix-cube : tie.Need-array-borrow-prefix-cube
-array-borrow-prefix-cube c = small-cube _ (c .before .before .before .before .pre .size)
+array-borrow-prefix-next : tie.Need-array-borrow-prefix-next
+array-borrow-prefix-next c = small-cube _ (c .before .before .before .before .pre .turning .size)
 
 slice-aggregate-build : tie.Need-slice-aggregate-build
-slice-aggregate-build c = sym (cube-part (c .before .before .before .before .before .pre .size))
-
-array-borrow-prefix-next : tie.Need-array-borrow-prefix-next
-array-borrow-prefix-next c = small-cube _ (c .before .before .before .before .before .pre .size)
-
-slice-aggregate-build-2 : tie.Need-slice-aggregate-build-2
-slice-aggregate-build-2 c = sym (cube-part (c .before .before .before .before .before .before .pre .size))
+slice-aggregate-build c = sym (cube-part (c .before .before .before .before .before .pre .turning .size))
 
 build-requires : tie.Need-build-requires
 build-requires c κs =
-    let a = c .before .before .before .before .before .before .pre in
-    record { some = a .some; size = a .size; good = a .good; shallow = a .shallow; cube-long = cube-part (a .size); next-long = cube-part (a .size) }
+    let a = c .before .before .before .before .before .pre in
+    let w = a .turning in
+    record { turning = record { some = w .some; size = w .size; good = w .good; next-long = cube-part (w .size) }; few = a .few; shallow = a .shallow }
 
 same-length : tie.Need-same-length
 same-length c = search needs
@@ -46,10 +41,8 @@ fill-spec =
     mul-m
     mul-m-2
     cast-build
-    array-borrow-prefix-cube
-    slice-aggregate-build
     array-borrow-prefix-next
-    slice-aggregate-build-2
+    slice-aggregate-build
     build-requires
     same-length
     returns)
