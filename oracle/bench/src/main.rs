@@ -1,8 +1,11 @@
 //! Times the crate and the proved library beside it: the same inputs, one run, both built for release. Prints a table of medians and ratios.
+//!
+//!   bench [PART..]     moves, lists, tables, search; by default all four
 use compare::crate_side::{codes, letters, mvs};
 use compare::rng::Rng;
 use cubesim::prelude::open::{ida_star, PruningTable, Solver};
 use cubesim::prelude::{Cube, FaceletCube, Move};
+use std::collections::BTreeSet;
 use std::hint::black_box;
 use std::mem::discriminant;
 use std::time::Instant;
@@ -14,6 +17,22 @@ fn median(runs: usize, mut f: impl FnMut()) -> f64 {
             let start = Instant::now();
             f();
             start.elapsed().as_nanos() as f64
+        })
+        .collect();
+    times.sort_by(f64::total_cmp);
+    times[runs / 2]
+}
+
+/// The median of several runs of so many calls, in nanoseconds for a call. What the calls return is freed after the clock has stopped.
+fn median_of_calls<T>(runs: usize, calls: usize, mut f: impl FnMut() -> T) -> f64 {
+    let mut times: Vec<f64> = (0..runs)
+        .map(|_| {
+            let mut kept = Vec::with_capacity(calls);
+            let start = Instant::now();
+            for _ in 0..calls {
+                kept.push(black_box(f()));
+            }
+            start.elapsed().as_nanos() as f64 / calls as f64
         })
         .collect();
     times.sort_by(f64::total_cmp);
@@ -100,21 +119,57 @@ fn face_moves() -> Vec<u16> {
     (0..6).flat_map(|k| (1..4).map(move |t| k * 4 + t)).collect()
 }
 
-fn building() {
+/// How much room our table has: exactly its entries, or ten times as many.
+#[derive(Clone, Copy)]
+enum Room {
+    Exact,
+    Tenfold,
+}
+
+/// A table built by both, timed over so many runs of so many calls.
+fn table(name: &str, starts: &[FaceletCube], moves: &[u16], depth: usize, room: Room, runs: usize, calls: usize) {
+    let ms = mvs(moves);
+    let flat: Vec<u8> = starts.iter().flat_map(|c| letters(&c.state())).collect();
+    let entries = PruningTable::new(starts, depth as i32, &ms).entries().len();
+    let crates = median_of_calls(runs, calls, || PruningTable::new(black_box(starts), depth as i32, black_box(&ms)));
+    let (times, said) = match room {
+        Room::Exact => (1, "exact room"),
+        Room::Tenfold => (10, "room for ten times as many"),
+    };
+    let mut table = vec![0u8; entries * times * 55];
+    let ours = median_of_calls(runs, calls, || {
+        let count = cubesim_proved::pruning_table(3, black_box(&flat), black_box(moves), depth, black_box(&mut table)).unwrap();
+        assert_eq!(count, entries);
+    });
+    row(&format!("table n = 3, {name}, {entries} entries, {said}"), crates, ours);
+}
+
+/// So many different cubes, the places of a walk of random face moves.
+fn walked(rng: &mut Rng, faces: &[u16], count: usize) -> Vec<FaceletCube> {
+    let (mut cube, mut seen, mut all) = (FaceletCube::new(3), BTreeSet::new(), Vec::new());
+    while all.len() < count {
+        cube = cube.apply_moves(&mvs(&[*rng.of(faces)]));
+        if seen.insert(letters(&cube.state())) {
+            all.push(cube.clone());
+        }
+    }
+    all
+}
+
+/// Tables from one entry to more than an index of 262,144 slots can hold at once, the largest last.
+fn building(rng: &mut Rng) {
     let halves = [2u16, 22, 10, 18, 6, 14];
     let faces = face_moves();
-    let solved = FaceletCube::new(3);
-    let start = letters(&solved.state());
-    for (name, moves, depth) in [("6 half turns, depth 6", &halves[..], 6usize), ("18 face moves, depth 4", &faces[..], 4), ("6 half turns, depth 8", &halves[..], 8)] {
-        let ms = mvs(moves);
-        let entries = PruningTable::new(&[solved.clone()], depth as i32, &ms).entries().len();
-        let crates = median(3, || drop(black_box(PruningTable::new(&[solved.clone()], depth as i32, &ms))));
-        let mut table = vec![0u8; entries * 55];
-        let ours = median(3, || {
-            black_box(cubesim_proved::pruning_table(3, &start, moves, depth, &mut table).unwrap());
-        });
-        row(&format!("table n = 3, {name}, {entries} entries"), crates, ours);
+    let solved = [FaceletCube::new(3)];
+    for (depth, runs, calls) in [(0, 301, 100), (1, 301, 20), (2, 301, 5), (4, 301, 1), (6, 31, 1), (8, 3, 1)] {
+        table(&format!("6 half turns, depth {depth}"), &solved, &halves, depth, Room::Exact, runs, calls);
     }
+    table("U alone, depth 20", &solved, &[1], 20, Room::Exact, 301, 20);
+    table("18 face moves, depth 2", &solved, &faces, 2, Room::Exact, 301, 1);
+    table("18 face moves, depth 4", &solved, &faces, 4, Room::Exact, 5, 1);
+    table("18 face moves, depth 4", &solved, &faces, 4, Room::Tenfold, 5, 1);
+    table("100000 starting cubes, depth 0", &walked(rng, &faces, 100_000), &faces, 0, Room::Exact, 3, 1);
+    table("18 face moves, depth 5", &solved, &faces, 5, Room::Exact, 3, 1);
 }
 
 /// How many states a pass of the search visits, a visit being one call of the crate's `dfs`; and whether it ends at a goal.
@@ -173,11 +228,19 @@ fn wake() {
 }
 
 fn main() {
-    let mut rng = Rng(20261115);
+    let asked: Vec<String> = std::env::args().skip(1).collect();
+    // each part has its own seed, so that its inputs are the same when it is asked for alone
+    let parts: [(&str, fn(&mut Rng), u64); 4] =
+        [("moves", moving, 20261115), ("lists", listing, 0x4cb0_0e2d_492a_f5e3), ("tables", building, 20261115), ("search", searching, 0xe956_bbba_f7e4_cb5b)];
+    if let Some(other) = asked.iter().find(|a| parts.iter().all(|(name, _, _)| name != a)) {
+        eprintln!("bench: {other} is not one of moves, lists, tables, search");
+        std::process::exit(2);
+    }
     wake();
     println!("| job | the crate | here | crate / here |\n|---|---|---|---|");
-    moving(&mut rng);
-    listing(&mut rng);
-    building();
-    searching(&mut rng);
+    for (name, part, seed) in parts {
+        if asked.is_empty() || asked.iter().any(|a| a == name) {
+            part(&mut Rng(seed));
+        }
+    }
 }

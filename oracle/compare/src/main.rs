@@ -1,6 +1,8 @@
 //! Holds the proved library against the crate, on document 01's domain, and shows each known difference outside it.
 //!
-//!   compare [SEED]     ends with status 1 at the first difference, with the smallest input found
+//!   compare [--large] [SEED]     ends with status 1 at the first difference, with the smallest input found
+//!                                --large: also the table of 621,649 entries
+mod crowded;
 mod differences;
 mod lists;
 mod moving;
@@ -25,7 +27,10 @@ impl Tally {
 }
 
 fn main() {
-    let seed = std::env::args().nth(1).map_or(20261115, |s| s.parse().expect("a seed is a number"));
+    let mut words: Vec<String> = std::env::args().skip(1).collect();
+    let large = words.first().is_some_and(|w| w == "--large");
+    words.drain(..large as usize);
+    let seed = words.first().map_or(20261115, |s| s.parse().expect("a seed is a number"));
     let start = Instant::now();
     let mut rng = Rng(seed);
     let mut tally = Tally(BTreeMap::new());
@@ -40,6 +45,11 @@ fn main() {
     moving::solved(&mut tally, &mut rng);
     solving::tables(&mut tally, &mut rng);
     solving::searches(&mut tally, &mut rng);
+    solving::chosen_tables(&mut tally, &mut rng);
+    crowded::all(&mut tally, &mut rng);
+    if large {
+        solving::largest_table(&mut tally);
+    }
     let shown = differences::all();
     for (kind, count) in &tally.0 {
         println!("{count:>9}  {kind}");
