@@ -84,7 +84,8 @@ uint64_t cubesim_invert_moves(uint64_t n, const uint16_t *moves, size_t moves_le
 
 /* A pruning table: an entry of 6n² + 1 bytes, a cube and a number, for each state that at most `depth` candidates reach from a starting
    cube, with the least such count, in rising order of the cubes; the value is the count of entries, and what lies after them stays.
-   Refusals 1, 2, 3, 5, 7, 11, and last 6, after which the whole table is zero. */
+   Refusals 1, 2, 3, 5, 7, 11, and last 6, after which the whole table is zero.
+   Stack: 11 KiB for a table of some hundred entries, 1,028 KiB for a larger one. */
 uint64_t cubesim_pruning_table(uint64_t n, const uint8_t *starts, size_t starts_len, const uint16_t *moves, size_t moves_len, uint64_t depth, uint8_t *table, size_t table_len);
 
 /* The first list, by iterative deepening up to `limit` moves, that leads the cube to an entry with number 0, no two neighbours of the same

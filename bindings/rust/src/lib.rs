@@ -296,6 +296,9 @@ pub fn invert_moves(n: usize, moves: &[u16], out: &mut [u16]) -> Result<usize, R
 
 /// Builds a pruning table of entries of `6 * n * n + 1` bytes; the answer is their count. After [`Refusal::Room`] the table is all zero.
 ///
+/// A table of more than some hundred entries needs 1,028 KiB of stack. A thread of Rust's has 2 MiB; one that is made with less takes more by
+/// `std::thread::Builder::new().stack_size(2 << 20)`.
+///
 /// ```
 /// let mut solved = [0u8; 54];
 /// cubesim_proved::solved(3, &mut solved)?;

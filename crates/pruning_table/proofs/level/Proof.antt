@@ -29,7 +29,7 @@ loop-holds c =
     (omega arith, a .1 .width-most, a .0 .next-long, refl, a .1 .few, climb-none (a .1 .room))
 
 classes-from-requires : tie.Need-classes-from-requires Inv-loop μ-loop
-classes-from-requires c κs = (c .loop-test .taken, c .before .loop .inv .1)
+classes-from-requires c κs = (omega (arith, c .loop-test .taken), c .before .loop .inv .1)
 
 outgrown-requires : tie.Need-outgrown-requires Inv-loop μ-loop
 outgrown-requires c κs = search needs
