@@ -1,7 +1,7 @@
 // The public entries, as C functions: nothing but calls of the crates below, their answers packed into one number.
 ghost use mathlib.Core.Path.{_≡_};
 ghost use Prim.Native.Nat.{suc};
-ghost use Rattle.generic_cube.specs.Numbers.{doneNo, answerNo, answerValue, answer};
+ghost use Rattle.generic_cube.specs.Answers.{doneNo, answerNo, answerValue, answer};
 ghost use Rattle.generic_cube.specs.AllMoves.{AllMovesResult};
 ghost use Rattle.generic_cube.specs.StickerIndex.{stickerRefusal, stickerIndex};
 ghost use Rattle.facelet_cube.specs.Apply.{ApplyMovesResult};
@@ -9,12 +9,13 @@ ghost use Rattle.facelet_cube.specs.Cube.{verdict, verdictNo, verdictValue, Sol
 ghost use Rattle.scramble_parser.specs.Parse.{ParseResult, parsedNo, parsedValue};
 ghost use Rattle.scramble_parser.specs.Write.{WriteResult};
 ghost use Rattle.scramble_parser.specs.Lists.{SimplifyResult, InvertResult};
-ghost use Rattle.pruning_table.specs.Built.{PruningTableResult};
+ghost use Rattle.pruning_table.specs.PruningTable.{PruningTableResult};
 ghost use Rattle.ida_star.specs.IdaStar.{IdaStarResult, outcomeNo, outcomeValue};
-ghost use Rattle.cubesim.specs.Pack.{pack, Packed};
+ghost use Rattle.cubesim.specs.Pack.{pack, version, Packed};
 use facelet_cube::cube::Verdict;
 use generic_cube::Answer;
 use generic_cube::Done;
+use ground::codes::MoveCode;
 use ida_star::Outcome;
 use scramble_parser::Parsed;
 
@@ -85,6 +86,14 @@ fn pack_found(k: usize) -> u64
     pack_of(0, 72057594037927936)
 }
 
+// The library's version, a plain number and not a packed answer: it refuses nothing.
+#[no_mangle]
+pub extern "C" fn cubesim_version() -> u64
+    ensures { λ r. ⌜ r ≡ version ⌝ }
+{
+    0 * 65536 + 1 * 256 + 0
+}
+
 // The solved cube.
 #[no_mangle]
 pub extern "C" fn cubesim_solved(n: usize, cube: &mut [u8]) -> u64
@@ -131,7 +140,7 @@ pub extern "C" fn cubesim_apply_moves(
     n: usize,
     cube: &mut [u8],
     work: &mut [u8],
-    moves: &[u16],
+    moves: &[MoveCode],
 ) -> u64
     ensures { λ r. ⌜ Packed doneNo (λ a. 0) (ApplyMovesResult n (now (cube .entry)) (now (work .entry)) (now (moves .entry)) (now (cube .exit)) (now (work .exit))) r ⌝ }
 {
@@ -144,7 +153,7 @@ pub extern "C" fn cubesim_apply_moves_to_ids(
     n: usize,
     ids: &mut [u16],
     work: &mut [u16],
-    moves: &[u16],
+    moves: &[MoveCode],
 ) -> u64
     ensures { λ r. ⌜ Packed doneNo (λ a. 0) (ApplyMovesResult n (now (ids .entry)) (now (work .entry)) (now (moves .entry)) (now (ids .exit)) (now (work .exit))) r ⌝ }
 {
@@ -153,7 +162,7 @@ pub extern "C" fn cubesim_apply_moves_to_ids(
 
 // All moves of a size.
 #[no_mangle]
-pub extern "C" fn cubesim_all_moves(n: usize, out: &mut [u16]) -> u64
+pub extern "C" fn cubesim_all_moves(n: usize, out: &mut [MoveCode]) -> u64
     ensures { λ r. ⌜ Packed answerNo answerValue (AllMovesResult n (now (out .entry)) (now (out .exit))) r ⌝ }
 {
     pack_answer(generic_cube::moves::all_moves(n, out))
@@ -161,7 +170,7 @@ pub extern "C" fn cubesim_all_moves(n: usize, out: &mut [u16]) -> u64
 
 // Reads a scramble.
 #[no_mangle]
-pub extern "C" fn cubesim_parse_scramble(n: usize, text: &[u8], out: &mut [u16]) -> u64
+pub extern "C" fn cubesim_parse_scramble(n: usize, text: &[u8], out: &mut [MoveCode]) -> u64
     ensures { λ r. ⌜ Packed parsedNo parsedValue (ParseResult n (now (text .entry)) (now (out .entry)) (now (out .exit))) r ⌝ }
 {
     pack_parsed(scramble_parser::parse_scramble(n, text, out))
@@ -169,7 +178,7 @@ pub extern "C" fn cubesim_parse_scramble(n: usize, text: &[u8], out: &mut [u16])
 
 // Writes a list as a scramble.
 #[no_mangle]
-pub extern "C" fn cubesim_write_scramble(n: usize, moves: &[u16], out: &mut [u8]) -> u64
+pub extern "C" fn cubesim_write_scramble(n: usize, moves: &[MoveCode], out: &mut [u8]) -> u64
     ensures { λ r. ⌜ Packed answerNo answerValue (WriteResult n (now (moves .entry)) (now (out .entry)) (now (out .exit))) r ⌝ }
 {
     pack_answer(scramble_parser::write::write_scramble(n, moves, out))
@@ -177,7 +186,7 @@ pub extern "C" fn cubesim_write_scramble(n: usize, moves: &[u16], out: &mut [u8]
 
 // Joins neighbours until none join.
 #[no_mangle]
-pub extern "C" fn cubesim_simplify_moves(n: usize, moves: &[u16], out: &mut [u16]) -> u64
+pub extern "C" fn cubesim_simplify_moves(n: usize, moves: &[MoveCode], out: &mut [MoveCode]) -> u64
     ensures { λ r. ⌜ Packed answerNo answerValue (SimplifyResult n (now (moves .entry)) (now (out .entry)) (now (out .exit))) r ⌝ }
 {
     pack_answer(scramble_parser::lists::simplify_moves(n, moves, out))
@@ -185,7 +194,7 @@ pub extern "C" fn cubesim_simplify_moves(n: usize, moves: &[u16], out: &mut [u16
 
 // The list that undoes a list.
 #[no_mangle]
-pub extern "C" fn cubesim_invert_moves(n: usize, moves: &[u16], out: &mut [u16]) -> u64
+pub extern "C" fn cubesim_invert_moves(n: usize, moves: &[MoveCode], out: &mut [MoveCode]) -> u64
     ensures { λ r. ⌜ Packed answerNo answerValue (InvertResult n (now (moves .entry)) (now (out .entry)) (now (out .exit))) r ⌝ }
 {
     pack_answer(scramble_parser::lists::invert_moves(n, moves, out))
@@ -196,7 +205,7 @@ pub extern "C" fn cubesim_invert_moves(n: usize, moves: &[u16], out: &mut [u16])
 pub extern "C" fn cubesim_pruning_table(
     n: usize,
     starts: &[u8],
-    moves: &[u16],
+    moves: &[MoveCode],
     depth: usize,
     table: &mut [u8],
 ) -> u64
@@ -212,12 +221,12 @@ pub extern "C" fn cubesim_ida_star(
     cube: &[u8],
     table: &[u8],
     depth: usize,
-    moves: &[u16],
+    moves: &[MoveCode],
     limit: usize,
     work: &mut [u8],
-    out: &mut [u16],
+    out: &mut [MoveCode],
 ) -> u64
-    ensures { λ r. ⌜ Packed outcomeNo outcomeValue (IdaStarResult n (now (cube .entry)) (now (table .entry)) depth (now (moves .entry)) limit (now (work .entry)) (now (work .exit)) (now (out .entry)) (now (out .exit))) r ⌝ }
+    ensures { λ r. ⌜ Packed outcomeNo outcomeValue (IdaStarResult (record { n = n; cube = now (cube .entry); table = now (table .entry); depth = depth; candidates = now (moves .entry); limit = limit }) (now (work .entry)) (now (work .exit)) (now (out .entry)) (now (out .exit))) r ⌝ }
 {
     pack_outcome(ida_star::ida_star(n, cube, table, depth, moves, limit, work, out))
 }

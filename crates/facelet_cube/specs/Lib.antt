@@ -1,12 +1,4 @@
-pub mod Apply
-pub mod ApplyLaws
 pub mod Cube
-pub mod CubeLaws
-pub mod Lane
-pub mod LaneLaws
-pub mod EdgeLaws
-pub mod RingLaws
-pub mod CycleLaws
-pub mod KeyLaws
-pub mod SideLaws
-pub mod InPlaceLaws
+pub mod Apply
+pub mod Inner
+pub mod InnerLanes

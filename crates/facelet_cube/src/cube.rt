@@ -1,7 +1,7 @@
 ghost use mathlib.Core.Path.{_≡_};
 ghost use lib.ListN.{length};
-ghost use Rattle.facelet_cube.specs.Cube.{cubeRefusal, solvedCube, solvedIds, oneByte, isSolved, verdict, maskRefusal, masked, SolvedResult, SolvedIdsResult, MaskResult};
-ghost use Rattle.facelet_cube.specs.CubeLaws.{Whole, largeId, Masks};
+ghost use Rattle.facelet_cube.specs.Cube.{cubeRefusal, solvedCube, solvedIds, oneByte, isSolved, verdict, largeId, maskRefusal, masked, SolvedResult, SolvedIdsResult, MaskResult};
+ghost use Rattle.facelet_cube.specs.Inner.{Whole, Masks};
 use generic_cube::Done;
 use generic_cube::stickers::LETTERS;
 

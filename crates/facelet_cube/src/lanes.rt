@@ -2,8 +2,8 @@ ghost use mathlib.Core.Path.{_≡_};
 ghost use Prim.Native.Nat.{_/_, _%_, _<_};
 ghost use Rattle.sticker.specs.Place.{numOf};
 ghost use Rattle.geometric_moves.specs.Turn.{kindFace};
-ghost use Rattle.geometric_moves.specs.TurnLaws.{Sized};
-ghost use Rattle.facelet_cube.specs.Lane.{ringWord, laneOf, ringOf, placeOn, Spot, Framed};
+ghost use Rattle.geometric_moves.specs.Inner.{Sized};
+ghost use Rattle.facelet_cube.specs.InnerLanes.{ringWord, laneOf, ringOf, placeOn, Spot, Framed};
 
 // The number of the face as which each kind turns.
 const KINDS: [u8; 15] = [0, 4, 2, 1, 5, 3, 0, 4, 2, 1, 5, 3, 1, 0, 2];

@@ -1,27 +1,25 @@
 -- All moves of a size, in the source's loops.
-use Prim.Native.Nat.{ℕ, zero, suc, _+_, _*_, _/_}
+use Prim.Native.Nat.{ℕ, _/_}
+use mathlib.Core.Bool.{not}
 use mathlib.Core.List.{List, [], _∷_, _++_}
-use mathlib.Core.Path.{_≡_}
-use lib.Dec.{ltb, eqb}
-use lib.ListN.{length, drop}
-use Rattle.ground.specs.Choice.{pick}
-use Rattle.generic_cube.specs.Numbers.{sized, answer}
+use lib.Dec.{ltb}
+use lib.ListN.{length}
+use Rattle.ground.specs.Lists.{each, upFrom, over}
+use Rattle.ground.specs.Refusals.{Row, _when_, lowest}
+use Rattle.generic_cube.specs.Sizes.{sized}
+use Rattle.generic_cube.specs.Answers.{AnswerWith}
+use Rattle.generic_cube.specs.Code.{move, codeOf}
 use Rattle.generic_cube.specs.declared.Answer.{Answer}
 
--- a loop: what f gives for each element, one after the other
-unfoldable pub each : List ℕ → (ℕ → List ℕ) → List ℕ
-each [] f = []
-each (x ∷ xs) f = f x ++ each xs f
+-- a kind and turn, in each width; a kind, in each turn; each kind
+abbrev pub widthsOf : List ℕ → ℕ → ℕ → List ℕ
+widthsOf widths k t = each widths (λ w. codeOf (move k w t) ∷ [])
 
--- count numbers from w on
-unfoldable pub upFrom : ℕ → ℕ → List ℕ
-upFrom w zero = []
-upFrom w (suc count) = w ∷ upFrom (w + 1) count
+abbrev pub turnsOf : List ℕ → ℕ → List ℕ
+turnsOf widths k = each (1 ∷ 2 ∷ 3 ∷ []) (widthsOf widths k)
 
--- each kind, in each turn, in each width
 unfoldable pub movesOf : List ℕ → List ℕ → List ℕ
-movesOf kinds widths =
-    each kinds (λ k. each (1 ∷ 2 ∷ 3 ∷ []) (λ t. each widths (λ w. (w * 64 + k * 4 + t) ∷ [])))
+movesOf kinds widths = each kinds (turnsOf widths)
 
 -- faces go U R F L D B; wide kinds go Uw Lw Fw Rw Bw Dw, each in the widths 1 to n/2
 abbrev pub faceKinds : List ℕ
@@ -34,14 +32,12 @@ unfoldable pub allMoves : ℕ → List ℕ
 allMoves n = movesOf faceKinds (0 ∷ []) ++ movesOf wideKinds (upFrom 1 (n / 2))
 
 -- 1: the size; 6: the output is too short
-unfoldable pub allRefusal : ℕ → ℕ → ℕ
-allRefusal n room = pick (sized n) (pick (ltb room (length (allMoves n))) 6 0) 1
+abbrev pub allRows : ℕ → ℕ → List Row
+allRows n room = 1 when not (sized n) ∷ 6 when ltb room (length (allMoves n)) ∷ []
 
--- the codes fill the first slots, what lies past them stays
-unfoldable pub allOut : ℕ → List ℕ → List ℕ
-allOut n out = pick (eqb (allRefusal n (length out)) 0) (allMoves n ++ drop (length (allMoves n)) out) out
+unfoldable pub allRefusal : ℕ → ℕ → ℕ
+allRefusal n room = lowest (allRows n room)
 
 -- what `all_moves` answers and leaves in its output
-pub record AllMovesResult (n : ℕ) (out out′ : List ℕ) (r : Answer) : Type 0 where
-  pub answered : r ≡ answer (allRefusal n (length out)) (length (allMoves n))
-  pub written : out′ ≡ allOut n out
+abbrev pub AllMovesResult : ℕ → List ℕ → List ℕ → Answer → Type 0
+AllMovesResult n out out′ r = AnswerWith (allRefusal n (length out)) (length (allMoves n)) (over (allMoves n) out) out out′ r

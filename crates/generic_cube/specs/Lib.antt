@@ -1,7 +1,6 @@
-pub mod Numbers
+pub mod Sizes
+pub mod Answers
 pub mod Code
-pub mod CodeLaws
 pub mod AllMoves
-pub mod AllMovesLaws
 pub mod StickerIndex
-pub mod StickerLaws
+pub mod Inner

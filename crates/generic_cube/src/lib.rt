@@ -1,7 +1,11 @@
-// Sizes, move codes and lists of them: generic_cube.rs.
+// Sizes, move codes and lists of them: generic_cube.rs. This file alone knows how a code is put together.
 ghost use mathlib.Core.Path.{_≡_};
-ghost use Rattle.generic_cube.specs.Numbers.{sized, small, beyond};
-ghost use Rattle.generic_cube.specs.Code.{isWide, badWidthIn, outside, readCode, refusalIn, listRefusal};
+ghost use Prim.Native.Nat.{_≤_};
+ghost use Rattle.ground.specs.Choice.{between};
+ghost use Rattle.generic_cube.specs.Sizes.{sized, small, beyond};
+ghost use Rattle.generic_cube.specs.Code.{codeOf, moveOf, turnedTo, isWide, badWidthIn, outside, readCode, refusalIn, listRefusal, joins, barred};
+ghost use Rattle.generic_cube.specs.Inner.{Codable};
+use ground::codes::MoveCode;
 
 pub mod moves;
 pub mod stickers;
@@ -31,24 +35,28 @@ pub enum Code {
     Refused(u8),
 }
 
+// Whether a number is low to high.
+pub fn is_between(low: usize, high: usize, x: usize) -> bool
+    ensures { λ r. ⌜ r ≡ between low high x ⌝ }
+{
+    if low <= x {
+        return x <= high;
+    }
+    false
+}
+
 // The sizes 1 to 104.
 pub fn is_size(n: usize) -> bool
     ensures { λ r. ⌜ r ≡ sized n ⌝ }
 {
-    if n < 1 {
-        return false;
-    }
-    n <= 104
+    is_between(1, 104, n)
 }
 
 // The sizes of tables and search, 1 to 7.
 pub fn is_small(n: usize) -> bool
     ensures { λ r. ⌜ r ≡ small n ⌝ }
 {
-    if n < 1 {
-        return false;
-    }
-    n <= 7
+    is_between(1, 7, n)
 }
 
 // More than 255 candidates, or a limit or depth above 20.
@@ -68,14 +76,19 @@ pub fn is_beyond(count: usize, limit: usize, depth: usize) -> bool
 pub fn is_wide(kind: usize) -> bool
     ensures { λ r. ⌜ r ≡ isWide kind ⌝ }
 {
-    if kind < 6 {
-        return false;
-    }
-    kind < 12
+    is_between(6, 11, kind)
+}
+
+// The code of a move.
+pub fn code_of(m: Move) -> MoveCode
+    requires { ⌜ Codable m ⌝ }
+    ensures { λ r. ⌜ r ≡ codeOf m ⌝ }
+{
+    (m.width * 64 + m.kind * 4 + m.turn) as MoveCode
 }
 
 // Takes a code apart, or refuses it with 3.
-pub fn read_code(code: u16) -> Code
+pub fn read_code(code: MoveCode) -> Code
     ensures { λ r. ⌜ r ≡ readCode code ⌝ }
 {
     let c = code as usize;
@@ -101,10 +114,36 @@ pub fn read_code(code: u16) -> Code
 pub fn is_outside(low: usize, high: usize, width: usize) -> bool
     ensures { λ r. ⌜ r ≡ outside low high width ⌝ }
 {
-    if width < low {
-        return true;
-    }
-    high < width
+    !is_between(low, high, width)
+}
+
+// Whether two neighbours join: they have equal kind and width.
+pub fn do_join(a: MoveCode, b: MoveCode) -> bool
+    ensures { λ r. ⌜ r ≡ joins a b ⌝ }
+{
+    a / 4 == b / 4
+}
+
+// Whether a search may not make a move right after another: they have the same kind.
+pub fn is_barred(last: MoveCode, code: MoveCode) -> bool
+    ensures { λ r. ⌜ r ≡ barred last code ⌝ }
+{
+    last / 4 % 16 == code / 4 % 16
+}
+
+// The turn of a code.
+pub fn turn_of(code: MoveCode) -> MoveCode
+    ensures { λ r. ⌜ r ≡ moveOf code .turn ⌝ }
+{
+    code % 4
+}
+
+// The same kind and width in another turn.
+pub fn with_turn(code: MoveCode, turn: MoveCode) -> MoveCode
+    requires { ⌜ turn ≤ 3 ⌝ }
+    ensures { λ r. ⌜ r ≡ turnedTo code turn ⌝ }
+{
+    code / 4 * 4 + turn
 }
 
 // Whether a move is wide and its width is not low to high.
@@ -120,7 +159,7 @@ fn is_bad_width(low: usize, high: usize, m: Move) -> bool
 }
 
 // The lowest refusal in a list whose wide widths are low to high, 0 for none: 3 anywhere beats 5 anywhere.
-pub fn refusal_in(low: usize, high: usize, list: &[u16]) -> u8
+pub fn refusal_in(low: usize, high: usize, list: &[MoveCode]) -> u8
     ensures { λ r. ⌜ r ≡ refusalIn low high (now (list .entry)) ⌝ }
 {
     let mut number: u8 = 0;
@@ -138,7 +177,7 @@ pub fn refusal_in(low: usize, high: usize, list: &[u16]) -> u8
 }
 
 // The refusal of a list that is applied, simplified, inverted or searched with.
-pub fn list_refusal(n: usize, list: &[u16]) -> u8
+pub fn list_refusal(n: usize, list: &[MoveCode]) -> u8
     ensures { λ r. ⌜ r ≡ listRefusal n (now (list .entry)) ⌝ }
 {
     refusal_in(1, n, list)

@@ -2,24 +2,36 @@ ghost use mathlib.Core.Path.{_≡_};
 ghost use mathlib.Core.List.{[], _∷_};
 ghost use Prim.Native.Nat.{_<_, _≤_, _+_, _*_};
 ghost use lib.ListN.{length};
-ghost use Rattle.generic_cube.specs.AllMoves.{each, upFrom, movesOf, allRefusal, AllMovesResult};
-ghost use Rattle.generic_cube.specs.AllMovesLaws.{Put, Kinds};
+ghost use Rattle.ground.specs.Lists.{upFrom};
+ghost use Rattle.ground.specs.Inner.{Put};
+ghost use Rattle.generic_cube.specs.AllMoves.{widthsOf, turnsOf, movesOf, allRefusal, AllMovesResult};
+ghost use Rattle.generic_cube.specs.Inner.{Kinds};
 use crate::Answer;
+use crate::Move;
+use ground::codes::MoveCode;
 
 // The kinds in the source's two loops.
-const FACES: [u16; 6] = [0, 3, 2, 1, 5, 4];
+const FACES: [usize; 6] = [0, 3, 2, 1, 5, 4];
 
-const WIDES: [u16; 6] = [6, 7, 8, 9, 10, 11];
+const WIDES: [usize; 6] = [6, 7, 8, 9, 10, 11];
 
 // A kind and turn in `count` widths from `first` on.
-fn put_widths(out: &mut [u16], start: usize, kind: u16, turn: u16, first: u16, count: u16) -> usize
+fn put_widths(
+    out: &mut [MoveCode],
+    start: usize,
+    kind: usize,
+    turn: usize,
+    first: usize,
+    count: usize,
+) -> usize
     requires { ⌜ (start + count ≤ length (now out)) × (first + count ≤ 53) × (kind < 15) × (turn ≤ 3) ⌝ }
-    ensures { λ r. ⌜ Put (now (out .entry)) start (each (upFrom first count) (λ w. (w * 64 + kind * 4 + turn) ∷ [])) (now (out .exit)) r ⌝ }
+    ensures { λ r. ⌜ Put (now (out .entry)) start (widthsOf (upFrom first count) kind turn) (now (out .exit)) r ⌝ }
 {
     let mut at = start;
-    let mut i: u16 = 0;
+    let mut i: usize = 0;
     while i < count {
-        out[at] = (first + i) * 64 + kind * 4 + turn;
+        let width = first + i;
+        out[at] = crate::code_of(Move { kind, width, turn });
         at += 1;
         i += 1;
     }
@@ -27,12 +39,12 @@ fn put_widths(out: &mut [u16], start: usize, kind: u16, turn: u16, first: u16, c
 }
 
 // A kind in the three turns.
-fn put_turns(out: &mut [u16], start: usize, kind: u16, first: u16, count: u16) -> usize
+fn put_turns(out: &mut [MoveCode], start: usize, kind: usize, first: usize, count: usize) -> usize
     requires { ⌜ (start + 3 * count ≤ length (now out)) × (first + count ≤ 53) × (kind < 15) ⌝ }
-    ensures { λ r. ⌜ Put (now (out .entry)) start (each (1 ∷ 2 ∷ 3 ∷ []) (λ t. each (upFrom first count) (λ w. (w * 64 + kind * 4 + t) ∷ []))) (now (out .exit)) r ⌝ }
+    ensures { λ r. ⌜ Put (now (out .entry)) start (turnsOf (upFrom first count) kind) (now (out .exit)) r ⌝ }
 {
     let mut at = start;
-    let mut i: u16 = 0;
+    let mut i: usize = 0;
     while i < 3 {
         at = put_widths(out, at, kind, i + 1, first, count);
         i += 1;
@@ -41,7 +53,13 @@ fn put_turns(out: &mut [u16], start: usize, kind: u16, first: u16, count: u16) -
 }
 
 // Each kind of a list.
-fn put_kinds(out: &mut [u16], start: usize, kinds: &[u16], first: u16, count: u16) -> usize
+fn put_kinds(
+    out: &mut [MoveCode],
+    start: usize,
+    kinds: &[usize],
+    first: usize,
+    count: usize,
+) -> usize
     requires { ⌜ (start + 18 * count ≤ length (now out)) × (first + count ≤ 53) × Kinds (now kinds) ⌝ }
     ensures { λ r. ⌜ Put (now (out .entry)) start (movesOf (now (kinds .entry)) (upFrom first count)) (now (out .exit)) r ⌝ }
 {
@@ -67,7 +85,7 @@ fn all_refusal(n: usize, room: usize) -> u8
 }
 
 // All moves of a size, in the source's order.
-pub fn all_moves(n: usize, out: &mut [u16]) -> Answer
+pub fn all_moves(n: usize, out: &mut [MoveCode]) -> Answer
     ensures { λ r. ⌜ AllMovesResult n (now (out .entry)) (now (out .exit)) r ⌝ }
 {
     let number = all_refusal(n, out.len());
@@ -75,6 +93,5 @@ pub fn all_moves(n: usize, out: &mut [u16]) -> Answer
         return Answer::Refused(number);
     }
     let faces = put_kinds(out, 0, &FACES, 0, 1);
-    let half = (n / 2) as u16;
-    Answer::Value(put_kinds(out, faces, &WIDES, 1, half))
+    Answer::Value(put_kinds(out, faces, &WIDES, 1, n / 2))
 }

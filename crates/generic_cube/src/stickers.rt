@@ -1,5 +1,5 @@
 ghost use mathlib.Core.Path.{_≡_};
-ghost use Rattle.generic_cube.specs.Numbers.{answer};
+ghost use Rattle.generic_cube.specs.Answers.{answer};
 ghost use Rattle.generic_cube.specs.StickerIndex.{faceNumber, stickerRefusal, stickerIndex};
 use crate::Answer;
 
@@ -27,10 +27,7 @@ fn sticker_refusal(n: usize, face: u8, index: usize) -> u8
         if face_number(face) == 6 {
             return 10;
         }
-        if index < 1 {
-            return 10;
-        }
-        if n * n < index {
+        if crate::is_outside(1, n * n, index) {
             return 10;
         }
         return 0;

@@ -1,4 +1,2 @@
 pub mod Turn
-pub mod RotationLaws
-pub mod TurnLaws
-pub mod MovedLaws
+pub mod Inner

@@ -5,10 +5,10 @@ use mathlib.Core.List.{List, [], _∷_}
 use lib.Dec.{ltb, leb, eqb}
 use lib.ListN.{getD}
 use Rattle.ground.specs.Choice.{pick, any, anyBelow}
-use Rattle.ground.specs.Fill.{tabulate}
+use Rattle.ground.specs.Lists.{tabulate}
 use Rattle.generic_cube.specs.declared.Move.{Move}
-use Rattle.generic_cube.specs.Numbers.{stickers}
-use Rattle.generic_cube.specs.Code.{moveOf}
+use Rattle.generic_cube.specs.Sizes.{stickers}
+use Rattle.generic_cube.specs.Code.{moveOf, back}
 use Rattle.sticker.specs.declared.Face.{Face}
 use Rattle.sticker.specs.declared.Face.the-variants.{U, R, F, D, L, B}
 use Rattle.sticker.specs.declared.Pos.{Pos}
@@ -114,43 +114,36 @@ wholeFace (suc (suc k)) = F
 unfoldable pub kindFace : ℕ → Face
 kindFace k = pick (ltb k 12) (letterFace (k % 6)) (wholeFace (k - 12))
 
--- the width: 1 for a plain letter; X, Y, Z take every sticker, as n layers do
-unfoldable pub widthOf : ℕ → ℕ → ℕ → ℕ
-widthOf n kind width = pick (ltb kind 6) 1 (pick (ltb kind 12) width n)
+-- how many layers a move has: 1 for a plain letter, its width for a wide one; X, Y, Z take every sticker, as n layers do
+unfoldable pub layersOf : ℕ → Move → ℕ
+layersOf n m = pick (ltb (m .kind) 6) 1 (pick (ltb (m .kind) 12) (m .width) n)
 
--- with width w, U takes y ≥ n-2w; the other faces the same in the coordinate c towards them
-unfoldable pub layer : ℕ → ℕ → ℕ → Bool
-layer n w c = leb (top n) (c + 2 * w)
+-- which stickers a move takes, by their coordinate c towards its face: with width w, U takes y ≥ n-2w, the other faces the same
+unfoldable pub takes : ℕ → Move → ℕ → Bool
+takes n m c = leb (top n) (c + 2 * layersOf n m)
 
 -- a rotation of those stickers alone whose coordinate towards f passes a test
 abbrev pub via : ℕ → Face → (ℕ → Bool) → Rotation → Pos → Pos
 via n f test r p = pick (test (toward n p f)) (rotate n r p) p
 
--- a move as the source's GeometricMove has it: the layers' face and width, and the rotation
-abbrev pub geometric : ℕ → Move → GeometricMove
-geometric n m = record {
+-- a move as the source's GeometricMove has it, with the face of its layers and its rotation
+abbrev pub geometric : Move → GeometricMove
+geometric m = record {
+  given = m;
   face = kindFace (m .kind);
-  width = widthOf n (m .kind) (m .width);
   rotation = turnOf (m .turn) (quarterOf (kindFace (m .kind)));
 }
 
 abbrev pub turnedBy : ℕ → GeometricMove → Pos → Pos
-turnedBy n g p = via n (g .face) (layer n (g .width)) (g .rotation) p
+turnedBy n g p = via n (g .face) (takes n (g .given)) (g .rotation) p
 
 -- where a move brings the sticker at p
 abbrev pub turned : ℕ → Move → Pos → Pos
-turned n m p = turnedBy n (geometric n m) p
+turned n m p = turnedBy n (geometric m) p
 
 -- the same for stored places
 unfoldable pub target : ℕ → Move → ℕ → ℕ
 target n m j = index n (turned n m (place n j))
-
--- the move back: a turn of 4 - t
-abbrev pub withTurn : Move → ℕ → Move
-withTurn m t = record { kind = m .kind; width = m .width; turn = t }
-
-abbrev pub back : Move → Move
-back m = withTurn m (4 - m .turn)
 
 -- whence the sticker at j comes: the place to which the move back brings j
 unfoldable pub source : ℕ → Move → ℕ → ℕ
@@ -170,7 +163,7 @@ abbrev pub offAt : ℕ → GeometricMove → ℕ → Bool
 offAt n g j = not (isOn (side n (turnedBy n g (place n j))))
 
 abbrev pub offFace : ℕ → Move → Bool
-offFace n m = anyBelow (offAt n (geometric n m)) (stickers n)
+offFace n m = anyBelow (offAt n (geometric m)) (stickers n)
 
 unfoldable pub listOff : ℕ → List ℕ → Bool
 listOff n cs = any (λ c. offFace n (moveOf c)) cs

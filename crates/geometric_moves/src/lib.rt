@@ -2,14 +2,15 @@
 ghost use mathlib.Core.Path.{_≡_};
 ghost use Prim.Native.Nat.{_<_, _≤_};
 ghost use Rattle.generic_cube.specs.Code.{listRefusal};
-ghost use Rattle.generic_cube.specs.CodeLaws.{Fair};
-ghost use Rattle.sticker.specs.Place.{place, found};
-ghost use Rattle.generic_cube.specs.Numbers.{stickers};
-ghost use Rattle.sticker.specs.PlaceLaws.{Inside};
-ghost use Rattle.geometric_moves.specs.Turn.{toward, opposite, facing, rotate, sameFace, whither, thenRot, inverseRot, turnOf, quarterOf, letterFace, wholeFace, kindFace, widthOf, layer, geometric, turnedBy, offFace, listOff};
-ghost use Rattle.geometric_moves.specs.TurnLaws.{Reach, Sized, Turns, Kept};
+ghost use Rattle.generic_cube.specs.Inner.{Fair};
+ghost use Rattle.sticker.specs.Place.{place};
+ghost use Rattle.sticker.specs.Inner.{foundAt, Inside};
+ghost use Rattle.generic_cube.specs.Sizes.{stickers};
+ghost use Rattle.geometric_moves.specs.Turn.{toward, opposite, facing, rotate, sameFace, whither, thenRot, inverseRot, turnOf, quarterOf, letterFace, wholeFace, kindFace, layersOf, takes, geometric, turnedBy, offFace, listOff};
+ghost use Rattle.geometric_moves.specs.Inner.{Takeable, Sized, Turns, MadeOf};
 use generic_cube::Code;
 use generic_cube::Move;
+use ground::codes::MoveCode;
 use sticker::Face;
 use sticker::Found;
 use sticker::Pos;
@@ -21,10 +22,10 @@ pub struct Rotation {
     pub z: Face,
 }
 
-// A move: the face and the width of its layers, and the rotation that these make.
+// A move, with the face from which its layers are counted and the rotation that these make.
 pub struct GeometricMove {
+    pub given: Move,
     pub face: Face,
-    pub width: usize,
     pub rotation: Rotation,
 }
 
@@ -246,42 +247,43 @@ pub fn kind_face(k: usize) -> Face
     whole_face(k - 12)
 }
 
-// The width: 1 for a plain letter, all n layers for X, Y, Z.
-pub fn width_of(n: usize, kind: usize, width: usize) -> usize
-    ensures { λ r. ⌜ r ≡ widthOf n kind width ⌝ }
+// How many layers a move has: 1 for a plain letter, all n for X, Y, Z.
+pub fn layers_of(n: usize, m: Move) -> usize
+    ensures { λ r. ⌜ r ≡ layersOf n m ⌝ }
 {
+    let kind = m.kind;
     if kind < 6 {
         return 1;
     }
     if kind < 12 {
-        return width;
+        return m.width;
     }
     n
 }
 
-// Whether the first w layers have a sticker, from its coordinate c towards their face.
-fn is_in_layer(n: usize, w: usize, c: usize) -> bool
-    requires { ⌜ Reach n w c ⌝ }
-    ensures { λ r. ⌜ r ≡ layer n w c ⌝ }
+// Whether a move takes a sticker, by its coordinate c towards the move's face.
+fn does_take(n: usize, m: Move, c: usize) -> bool
+    requires { ⌜ Takeable n m c ⌝ }
+    ensures { λ r. ⌜ r ≡ takes n m c ⌝ }
 {
+    let w = layers_of(n, m);
     2 * n <= c + 2 * w
 }
 
 impl GeometricMove {
-    // A move's layers and rotation.
-    pub fn new(n: usize, m: Move) -> GeometricMove
-        requires { ⌜ Fair n m ⌝ }
-        ensures { λ r. ⌜ r ≡ geometric n m ⌝ }
+    // A move's face and rotation.
+    pub fn new(given: Move) -> GeometricMove
+        requires { ⌜ (given .kind < 15) × (given .turn ≤ 3) ⌝ }
+        ensures { λ r. ⌜ r ≡ geometric given ⌝ }
     {
-        let kind = m.kind;
-        let turn = m.turn;
+        let kind = given.kind;
+        let turn = given.turn;
         let face = kind_face(kind);
-        let width = width_of(n, kind, m.width);
         let q = quarter_of(face);
         let rotation = turn_of(turn, q);
         GeometricMove {
+            given,
             face,
-            width,
             rotation,
         }
     }
@@ -292,10 +294,10 @@ impl GeometricMove {
         ensures { λ r. ⌜ r ≡ turnedBy n self p ⌝ }
     {
         let f = self.face;
-        let w = self.width;
+        let m = self.given;
         let r = self.rotation;
         let c = toward_of(n, p, f);
-        if is_in_layer(n, w, c) {
+        if does_take(n, m, c) {
             return r.apply(n, p);
         }
         p
@@ -303,8 +305,8 @@ impl GeometricMove {
 
     // The index to which this move brings the sticker at index j, if that is on a face.
     pub fn target(self, n: usize, j: usize) -> Found
-        requires { ⌜ Kept n self × (j < stickers n) ⌝ }
-        ensures { λ r. ⌜ r ≡ found n (turnedBy n self (place n j)) ⌝ }
+        requires { ⌜ MadeOf n self × (j < stickers n) ⌝ }
+        ensures { λ r. ⌜ r ≡ foundAt n (turnedBy n self (place n j)) ⌝ }
     {
         let p = sticker::place_of(n, j);
         let q = self.turn(n, p);
@@ -317,7 +319,7 @@ fn is_off_face(n: usize, m: Move) -> bool
     requires { ⌜ Sized n × Fair n m ⌝ }
     ensures { λ r. ⌜ r ≡ offFace n m ⌝ }
 {
-    let g = GeometricMove::new(n, m);
+    let g = GeometricMove::new(m);
     let side = n * n;
     let mut k: usize = 0;
     while k < 6 {
@@ -331,7 +333,7 @@ fn is_off_face(n: usize, m: Move) -> bool
 
 // Refusal 11: whether a move of a list brings a sticker to a position on no face. Moves of equal kind and turn are looked at
 // once, whatever their widths.
-pub fn list_off(n: usize, list: &[u16]) -> bool
+pub fn list_off(n: usize, list: &[MoveCode]) -> bool
     requires { ⌜ Sized n × (listRefusal n (now list) ≡ 0) ⌝ }
     ensures { λ r. ⌜ r ≡ listOff n (now (list .entry)) ⌝ }
 {

@@ -1,5 +1,4 @@
 pub mod Choice
-pub mod Fill
-pub mod Loops
-pub mod Sides
-pub mod Members
+pub mod Lists
+pub mod Refusals
+pub mod Inner

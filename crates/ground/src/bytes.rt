@@ -1,7 +1,7 @@
 ghost use mathlib.Core.Path.{_≡_};
 ghost use Prim.Native.Nat.{_+_, _≤_};
 ghost use lib.ListN.{length, replicate};
-ghost use Rattle.ground.specs.Loops.{Copying};
+ghost use Rattle.ground.specs.Inner.{Copying};
 
 // Copies a short slice, byte by byte.
 fn copy_short(from: &[u8], to: &mut [u8])

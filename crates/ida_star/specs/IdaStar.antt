@@ -2,47 +2,41 @@
 use Prim.Native.Nat.{ℕ, suc, _+_, _*_}
 use mathlib.Core.Path.{_≡_}
 use mathlib.Core.Bool.{not}
-use mathlib.Core.List.{List, _++_}
+use mathlib.Core.List.{List, [], _∷_, _++_}
 use lib.Dec.{eqb, ltb}
 use lib.ListN.{length, drop, replicate}
 use Rattle.ground.specs.Choice.{pick}
-use Rattle.generic_cube.specs.Numbers.{small, beyond, stickers}
-use Rattle.generic_cube.specs.Code.{moveOf, barred, listRefusal}
-use Rattle.geometric_moves.specs.Turn.{moved, listOff}
-use Rattle.table.specs.Table.{numberOf, wellFormed}
-use Rattle.search_theory.specs.Search.{Reply, none, found, Task, ida}
+use Rattle.ground.specs.Lists.{over}
+use Rattle.ground.specs.Refusals.{Row, _when_, lowest}
+use Rattle.generic_cube.specs.Sizes.{small, beyond, stickers}
+use Rattle.generic_cube.specs.Answers.{unless}
+use Rattle.generic_cube.specs.Code.{listRows}
+use Rattle.geometric_moves.specs.Turn.{listOff}
+use Rattle.table.specs.Table.{wellFormed}
+use Rattle.search_theory.specs.Search.{Reply, none, found, ida}
+use Rattle.search_theory.specs.CubeSearch.{CubeSearch, taskOf}
 use Rattle.ida_star.specs.declared.Outcome.{Outcome}
 use Rattle.ida_star.specs.declared.Outcome.the-variants.{Found, Nothing, Refused}
 
--- a move of the search turns the cube; a state's number is the one that the table gives; no two neighbours have the same kind
-abbrev pub task : ℕ → List ℕ → ℕ → List ℕ → Task
-task n table depth moves =
-    record { moved = λ c s. moved n (moveOf c) s; number = numberOf (stickers n) table depth; barred = barred; candidates = moves }
-
 -- for any table at all the answer is the source's `dfs` under rising limits
-abbrev pub reply : ℕ → List ℕ → List ℕ → ℕ → List ℕ → ℕ → Reply
-reply n cube table depth moves limit = ida (task n table depth moves) limit cube
+abbrev pub reply : CubeSearch → Reply
+reply q = ida (taskOf q) (q .limit) (q .cube)
 
 -- work area: (limit + 1)·6n² bytes
 abbrev pub levels : ℕ → ℕ → ℕ
 levels n limit = (limit + 1) * stickers n
 
--- 8: the table isn't whole entries with strictly rising keys; 9: the work area is too short; 11: a turned position lies on no face
-unfoldable pub lateRefusal : ℕ → List ℕ → List ℕ → ℕ → ℕ → ℕ
-lateRefusal n table moves limit work =
-    pick (not (wellFormed (stickers n) table)) 8
-    (pick (ltb work (levels n limit)) 9
-    (pick (listOff n moves) 11 0))
+-- 1: the size; 2: the cube isn't 6n² long; 3, 5: the list; 6: the output is too short; 7: too many candidates, or limit or depth too high;
+-- 8: the table isn't whole entries with strictly rising keys; 9: the work area is too short; 11: a turned position lies on no face. The
+-- work area and the output by their lengths.
+abbrev pub searchRows : CubeSearch → ℕ → ℕ → List Row
+searchRows q work out =
+    1 when not (small (q .n)) ∷ 2 when not (eqb (length (q .cube)) (stickers (q .n))) ∷
+    (listRows (q .n) (q .candidates) ++ (6 when ltb out (q .limit) ∷ 7 when beyond (length (q .candidates)) (q .limit) (q .depth) ∷
+    8 when not (wellFormed (stickers (q .n)) (q .table)) ∷ 9 when ltb work (levels (q .n) (q .limit)) ∷ 11 when listOff (q .n) (q .candidates) ∷ []))
 
--- the lowest refusal that applies, 0 for none; the work area and the output by their lengths
-unfoldable pub searchRefusal : ℕ → List ℕ → List ℕ → ℕ → List ℕ → ℕ → ℕ → ℕ → ℕ
-searchRefusal n cube table depth moves limit work out =
-    pick (not (small n)) 1
-    (pick (not (eqb (length cube) (stickers n))) 2
-    (pick (not (eqb (listRefusal n moves) 0)) (listRefusal n moves)
-    (pick (ltb out limit) 6
-    (pick (beyond (length moves) limit depth) 7
-    (lateRefusal n table moves limit work)))))
+unfoldable pub searchRefusal : CubeSearch → ℕ → ℕ → ℕ
+searchRefusal q work out = lowest (searchRows q work out)
 
 -- the answer of a search that is not refused
 abbrev pub outcomeOf : Reply → Outcome
@@ -52,22 +46,21 @@ outcomeOf (found p) = Found (length p)
 -- a found list fills the first slots, the others stay; none changes no output
 abbrev pub outputOf : Reply → List ℕ → List ℕ
 outputOf none out = out
-outputOf (found p) out = p ++ drop (length p) out
+outputOf (found p) out = over p out
 
 -- the answer, with that refusal or that reply; the first bytes of the work area are zero afterwards, the rest unchanged; a refusal
 -- changes nothing
 pub record Searched (number : ℕ) (reply : Reply) (need : ℕ) (work work′ out out′ : List ℕ) (r : Outcome) : Type 0 where
   pub answered : r ≡ pick (eqb number 0) (outcomeOf reply) (Refused number)
-  pub zeroed : work′ ≡ pick (eqb number 0) (replicate need 0 ++ drop need work) work
-  pub written : out′ ≡ pick (eqb number 0) (outputOf reply out) out
+  pub zeroed : work′ ≡ unless number (replicate need 0 ++ drop need work) work
+  pub written : out′ ≡ unless number (outputOf reply out) out
 
 -- what `ida_star` answers, and leaves in its work area and its output
-abbrev pub IdaStarResult : ℕ → List ℕ → List ℕ → ℕ → List ℕ → ℕ → List ℕ → List ℕ → List ℕ → List ℕ → Outcome → Type 0
-IdaStarResult n cube table depth moves limit work work′ out out′ r =
-    Searched (searchRefusal n cube table depth moves limit (length work) (length out)) (reply n cube table depth moves limit)
-    (levels n limit) work work′ out out′ r
+abbrev pub IdaStarResult : CubeSearch → List ℕ → List ℕ → List ℕ → List ℕ → Outcome → Type 0
+IdaStarResult q work work′ out out′ r =
+    Searched (searchRefusal q (length work) (length out)) (reply q) (levels (q .n) (q .limit)) work work′ out out′ r
 
--- document 01's number of each case, 0 where nothing is refused
+-- the rules' number of each case, 0 where nothing is refused
 abbrev pub outcomeNo : Outcome → ℕ
 outcomeNo (Found k) = 0
 outcomeNo Nothing = 0

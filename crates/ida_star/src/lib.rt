@@ -3,13 +3,15 @@ ghost use mathlib.Core.Path.{_≡_};
 ghost use mathlib.Core.List.{[], _++_};
 ghost use Prim.Native.Nat.{_≤_};
 ghost use lib.ListN.{length, drop};
-ghost use Rattle.generic_cube.specs.Numbers.{stickers};
+ghost use Rattle.generic_cube.specs.Sizes.{stickers};
 ghost use Rattle.generic_cube.specs.Code.{moveOf, barred};
 ghost use Rattle.geometric_moves.specs.Turn.{moved};
 ghost use Rattle.search_theory.specs.Search.{bars, dfs};
-ghost use Rattle.ida_star.specs.IdaStar.{task, reply, lateRefusal, searchRefusal, IdaStarResult};
-ghost use Rattle.ida_star.specs.Visit.{held, Roomy, Longer, next, Turning, Ready, Told, Visited, Starting, Risen, Late};
+ghost use Rattle.search_theory.specs.CubeSearch.{cubeTask};
+ghost use Rattle.ida_star.specs.IdaStar.{reply, searchRefusal, IdaStarResult};
+ghost use Rattle.ida_star.specs.Inner.{pathMoves, Roomy, Longer, next, TurnRoom, VisitReady, AnswerTold, VisitTold, Starting, PassesTold, Late, lateRefusal};
 use generic_cube::Code;
+use ground::codes::MoveCode;
 
 // What a search answers: a list of so many moves, none, or the number of its refusal.
 pub enum Outcome {
@@ -20,7 +22,7 @@ pub enum Outcome {
 
 // The moves made so far.
 pub struct Path {
-    pub moves: [u16; 20],
+    pub moves: [MoveCode; 20],
     pub len: usize,
 }
 
@@ -30,21 +32,21 @@ pub struct Answer {
     pub path: Path,
 }
 
-// Whether a move may not follow the last of a path: it has the same kind.
-fn is_barred(path: Path, code: u16) -> bool
+// Whether a move may not follow the last of a path.
+fn path_bars(path: Path, code: MoveCode) -> bool
     requires { ⌜ Roomy path 0 ⌝ }
-    ensures { λ r. ⌜ r ≡ bars barred (held path) code ⌝ }
+    ensures { λ r. ⌜ r ≡ bars barred (pathMoves path) code ⌝ }
 {
     let len = path.len;
     if len == 0 {
         return false;
     }
     let last = path.moves[len - 1];
-    last / 4 % 16 == code / 4 % 16
+    generic_cube::is_barred(last, code)
 }
 
 // A path with one move more.
-fn pushed(path: Path, code: u16) -> Path
+fn pushed(path: Path, code: MoveCode) -> Path
     requires { ⌜ Roomy path 1 ⌝ }
     ensures { λ q. ⌜ Longer path code q ⌝ }
 {
@@ -56,8 +58,8 @@ fn pushed(path: Path, code: u16) -> Path
 }
 
 // The next level's cube: this level's, turned, by way of a copy of it.
-fn turn_level(n: usize, code: u16, here: &mut [u8], work: &mut [u8])
-    requires { ⌜ Turning n code (length (now work)) × (length (now here) ≡ stickers n) ⌝ }
+fn turn_level(n: usize, code: MoveCode, here: &mut [u8], work: &mut [u8])
+    requires { ⌜ TurnRoom n code (length (now work)) × (length (now here) ≡ stickers n) ⌝ }
     ensures { λ _. ⌜ now (work .exit) ≡ next (stickers n) (moved n (moveOf code)) (now (work .entry)) ⌝ }
 {
     let Code::Taken(m) = generic_cube::read_code(code) else {
@@ -70,8 +72,8 @@ fn turn_level(n: usize, code: u16, here: &mut [u8], work: &mut [u8])
 }
 
 // The same, with the copy's bytes.
-fn advance(n: usize, code: u16, work: &mut [u8])
-    requires { ⌜ Turning n code (length (now work)) ⌝ }
+fn advance(n: usize, code: MoveCode, work: &mut [u8])
+    requires { ⌜ TurnRoom n code (length (now work)) ⌝ }
     ensures { λ _. ⌜ now (work .exit) ≡ next (stickers n) (moved n (moveOf code)) (now (work .entry)) ⌝ }
 {
     let s = 6 * n * n;
@@ -84,13 +86,13 @@ fn dfs(
     n: usize,
     table: &[u8],
     depth: usize,
-    moves: &[u16],
+    moves: &[MoveCode],
     work: &mut [u8],
     path: Path,
     left: usize,
 ) -> Answer
-    requires { ⌜ Ready n (now table) depth (now moves) (length (now work)) path left ⌝ }
-    ensures { λ a. ⌜ Visited (task n (now (table .entry)) depth (now (moves .entry))) (stickers n) left path (now (work .entry)) (now (work .exit)) a ⌝ }
+    requires { ⌜ VisitReady n (now table) depth (now moves) (length (now work)) path left ⌝ }
+    ensures { λ a. ⌜ VisitTold (cubeTask n (now (table .entry)) depth (now (moves .entry))) (stickers n) left path (now (work .entry)) (now (work .exit)) a ⌝ }
 {
     let s = 6 * n * n;
     let number = table::number(table, s, depth, &work[..s]);
@@ -103,7 +105,7 @@ fn dfs(
     let mut i = 0;
     while i < moves.len() {
         let code = moves[i];
-        if !is_barred(path, code) {
+        if !path_bars(path, code) {
             advance(n, code, work);
             let a = dfs(
                 n,
@@ -129,16 +131,16 @@ fn pass(
     cube: &[u8],
     table: &[u8],
     depth: usize,
-    moves: &[u16],
+    moves: &[MoveCode],
     left: usize,
     work: &mut [u8],
 ) -> Answer
     requires { ⌜ Starting n (now cube) (now table) depth (now moves) left (length (now work)) ⌝ }
-    ensures { λ a. ⌜ Told (dfs (task n (now (table .entry)) depth (now (moves .entry))) left [] (now (cube .entry))) a ⌝ }
+    ensures { λ a. ⌜ AnswerTold (dfs (cubeTask n (now (table .entry)) depth (now (moves .entry))) left [] (now (cube .entry))) a ⌝ }
 {
     let s = 6 * n * n;
     ground::bytes::copy(cube, &mut work[..s]);
-    let slots = [0u16; 20];
+    let slots: [MoveCode; 20] = [0; 20];
     let path = Path {
         moves: slots,
         len: 0,
@@ -147,14 +149,14 @@ fn pass(
 }
 
 // The moves of a path, in the first slots of the output.
-fn store(path: Path, out: &mut [u16])
+fn store(path: Path, out: &mut [MoveCode])
     requires { ⌜ Roomy path 0 ⌝ }
     requires { ⌜ path .len ≤ length (now out) ⌝ }
-    ensures { λ _. ⌜ now (out .exit) ≡ held path ++ drop (path .len) (now (out .entry)) ⌝ }
+    ensures { λ _. ⌜ now (out .exit) ≡ pathMoves path ++ drop (path .len) (now (out .entry)) ⌝ }
 {
     let len = path.len;
     let moves = path.moves;
-    ground::words::copy(&moves[..len], &mut out[..len]);
+    ground::codes::copy(&moves[..len], &mut out[..len]);
 }
 
 // The passes, under rising limits.
@@ -163,14 +165,14 @@ fn rise(
     cube: &[u8],
     table: &[u8],
     depth: usize,
-    moves: &[u16],
+    moves: &[MoveCode],
     limit: usize,
     work: &mut [u8],
-    out: &mut [u16],
+    out: &mut [MoveCode],
 ) -> Outcome
     requires { ⌜ Starting n (now cube) (now table) depth (now moves) limit (length (now work)) ⌝ }
     requires { ⌜ limit ≤ length (now out) ⌝ }
-    ensures { λ r. ⌜ Risen (reply n (now (cube .entry)) (now (table .entry)) depth (now (moves .entry)) limit) (now (out .entry)) (now (out .exit)) r ⌝ }
+    ensures { λ r. ⌜ PassesTold (reply (record { n = n; cube = now (cube .entry); table = now (table .entry); depth = depth; candidates = now (moves .entry); limit = limit })) (now (out .entry)) (now (out .exit)) r ⌝ }
 {
     let mut left = 0;
     while left <= limit {
@@ -187,7 +189,7 @@ fn rise(
 }
 
 // Refusals 8, 9 and 11, of the table, the work area and the turns.
-fn late_refusal(n: usize, table: &[u8], moves: &[u16], limit: usize, work: usize) -> u8
+fn late_refusal(n: usize, table: &[u8], moves: &[MoveCode], limit: usize, work: usize) -> u8
     requires { ⌜ Late n (now moves) limit ⌝ }
     ensures { λ r. ⌜ r ≡ lateRefusal n (now (table .entry)) (now (moves .entry)) limit work ⌝ }
 {
@@ -210,12 +212,12 @@ fn search_refusal(
     cube: &[u8],
     table: &[u8],
     depth: usize,
-    moves: &[u16],
+    moves: &[MoveCode],
     limit: usize,
     work: usize,
     out: usize,
 ) -> u8
-    ensures { λ r. ⌜ r ≡ searchRefusal n (now (cube .entry)) (now (table .entry)) depth (now (moves .entry)) limit work out ⌝ }
+    ensures { λ r. ⌜ r ≡ searchRefusal (record { n = n; cube = now (cube .entry); table = now (table .entry); depth = depth; candidates = now (moves .entry); limit = limit }) work out ⌝ }
 {
     if !generic_cube::is_small(n) {
         return 1;
@@ -242,12 +244,12 @@ pub fn ida_star(
     cube: &[u8],
     table: &[u8],
     depth: usize,
-    moves: &[u16],
+    moves: &[MoveCode],
     limit: usize,
     work: &mut [u8],
-    out: &mut [u16],
+    out: &mut [MoveCode],
 ) -> Outcome
-    ensures { λ r. ⌜ IdaStarResult n (now (cube .entry)) (now (table .entry)) depth (now (moves .entry)) limit (now (work .entry)) (now (work .exit)) (now (out .entry)) (now (out .exit)) r ⌝ }
+    ensures { λ r. ⌜ IdaStarResult (record { n = n; cube = now (cube .entry); table = now (table .entry); depth = depth; candidates = now (moves .entry); limit = limit }) (now (work .entry)) (now (work .exit)) (now (out .entry)) (now (out .exit)) r ⌝ }
 {
     let number = search_refusal(n, cube, table, depth, moves, limit, work.len(), out.len());
     if number != 0 {

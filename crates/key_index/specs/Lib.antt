@@ -1,3 +1,2 @@
-pub mod Index
-pub mod WordLaws
-pub mod IndexLaws
+pub mod InnerIndex
+pub mod Inner

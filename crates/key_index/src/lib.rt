@@ -4,9 +4,9 @@ ghost use mathlib.Core.Path.{_≡_};
 ghost use mathlib.Core.Bool.{true};
 ghost use Prim.Native.Nat.{_+_, _%_, _≤_, _<_};
 ghost use lib.ListN.{length, replicate};
-ghost use Rattle.table.specs.Table.{keyAt};
-ghost use Rattle.search_theory.specs.Levels.{Present};
-ghost use Rattle.key_index.specs.Index.{run, mixed, twoOf, fourOf, wordOf, hashOf, placeAt, Told, Freed, Probing, Probed, Scanning, Indexed, Empty, Filing, Seeking, Sought};
+ghost use Rattle.table.specs.Entries.{entryKey, Present};
+ghost use Rattle.key_index.specs.InnerIndex.{runLength, mixed, twoOf, fourOf, wordOf, hashOf, runStartOf, Indexed, Empty};
+ghost use Rattle.key_index.specs.Inner.{Says, Freed, Probing, Probed, Scanning, Filing, KeyAsked, Sought};
 
 // How many classes the keys fall into.
 pub const CLASSES: usize = 1024;
@@ -62,7 +62,7 @@ fn word(s: &[u8], j: usize) -> usize
 // Whether two keys are the same, six bytes at a time.
 pub fn same(a: &[u8], b: &[u8]) -> bool
     requires { ⌜ (length (now a) ≡ length (now b)) × (length (now a) % 6 ≡ 0) ⌝ }
-    ensures { λ r. ⌜ Told (now (a .entry) ≡ now (b .entry)) r ⌝ }
+    ensures { λ r. ⌜ Says (now (a .entry) ≡ now (b .entry)) r ⌝ }
 {
     let parts = a.len() / 6;
     let mut i = 0;
@@ -97,8 +97,8 @@ pub fn hash(key: &[u8]) -> usize
 
 // Where the run of a hash begins among so many slots.
 fn place(h: usize, slots: usize) -> usize
-    requires { ⌜ (h < 4294967296) × (run < slots) × (slots < 4294967296) ⌝ }
-    ensures { λ r. ⌜ (r ≡ placeAt slots h) × (r + run ≤ slots) ⌝ }
+    requires { ⌜ (h < 4294967296) × (runLength < slots) × (slots < 4294967296) ⌝ }
+    ensures { λ r. ⌜ (r ≡ runStartOf slots h) × (r + runLength ≤ slots) ⌝ }
 {
     h / CLASSES * (slots - RUN) / 4194304
 }
@@ -106,7 +106,7 @@ fn place(h: usize, slots: usize) -> usize
 // Whether a key stands among the first `count`, walking from the front.
 fn scan(table: &[u8], m: usize, count: usize, key: &[u8]) -> bool
     requires { ⌜ Scanning m count (now table) (now key) ⌝ }
-    ensures { λ r. ⌜ Told (Present (keyAt m (now (table .entry))) count (now (key .entry))) r ⌝ }
+    ensures { λ r. ⌜ Says (Present (entryKey m (now (table .entry))) count (now (key .entry))) r ⌝ }
 {
     let mut i = 0;
     while i < count {
@@ -140,7 +140,7 @@ fn probe(table: &[u8], m: usize, key: &[u8], index: &[u32], at: usize) -> Found
 
 // The first empty slot of that run.
 fn free(index: &[u32], at: usize) -> Found
-    requires { ⌜ at + run ≤ length (now index) ⌝ }
+    requires { ⌜ at + runLength ≤ length (now index) ⌝ }
     ensures { λ r. ⌜ Freed (now (index .entry)) at r ⌝ }
 {
     let end = at + RUN;
@@ -166,7 +166,7 @@ pub fn clear(index: &mut [u32])
 }
 
 fn is_within(class: usize, classes: Classes) -> bool
-    ensures { λ r. ⌜ Told ((classes .low ≤ class) × (class < classes .high)) r ⌝ }
+    ensures { λ r. ⌜ Says ((classes .low ≤ class) × (class < classes .high)) r ⌝ }
 {
     if class < classes.low {
         return false;
@@ -215,7 +215,7 @@ pub fn find(
     index: &[u32],
     classes: Classes,
 ) -> Found
-    requires { ⌜ Seeking m count (now table) (now key) (now index) classes ⌝ }
+    requires { ⌜ KeyAsked m count (now table) (now key) (now index) classes ⌝ }
     ensures { λ r. ⌜ Sought m count (now (table .entry)) (now (key .entry)) (now (index .entry)) classes r ⌝ }
 {
     let h = hash(key);

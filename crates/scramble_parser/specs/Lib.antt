@@ -1,11 +1,6 @@
 pub mod Token
 pub mod Words
 pub mod Parse
-pub mod ParseLaws
-pub mod TokenLaws
-pub mod Room
-pub mod Lists
-pub mod SimplifyLaws
-pub mod ListLaws
 pub mod Write
-pub mod WriteLaws
+pub mod Lists
+pub mod Inner

@@ -1,29 +1,26 @@
--- Lists of codes: simplifying and inverting. A code is (width·16 + kind)·4 + turn, so two codes have equal kind and width exactly if
--- their quotients by 4 are equal, and the turn is the remainder.
-use Prim.Native.Nat.{ℕ, _+_, _-_, _*_, _/_, _%_, _<_}
+-- Lists of codes: simplifying and inverting.
+use Prim.Native.Nat.{ℕ, _+_, _-_, _%_, _<_}
 use mathlib.Core.Path.{_≡_}
-use mathlib.Core.Bool.{Bool, true, false}
+use mathlib.Core.Bool.{true, false, not}
 use mathlib.Core.List.{List, [], _∷_, _++_}
-use lib.ListN.{length, drop, replicate}
-use lib.Dec.{eqb}
+use lib.ListN.{length, replicate}
+use lib.Dec.{eqb, ltb}
 use Rattle.ground.specs.Choice.{pick}
-use Rattle.generic_cube.specs.Numbers.{answer}
-use Rattle.generic_cube.specs.Code.{listRefusal}
+use Rattle.ground.specs.Lists.{over}
+use Rattle.ground.specs.Refusals.{Row, _when_, lowest}
+use Rattle.generic_cube.specs.Sizes.{sized}
+use Rattle.generic_cube.specs.Answers.{AnswerWith}
+use Rattle.generic_cube.specs.Code.{codeOf, moveOf, turnedTo, back, joins, listRows}
 use Rattle.generic_cube.specs.declared.Answer.{Answer}
-use Rattle.scramble_parser.specs.Room.{fillRefusal}
 
 -- ---- simplifying
 
--- neighbours of equal kind and width join
-abbrev pub joins : ℕ → ℕ → Bool
-joins c d = eqb (c / 4) (d / 4)
-
--- turns adding modulo 4
+-- turns add modulo 4
 abbrev pub turnSum : ℕ → ℕ → ℕ
-turnSum c d = (c % 4 + d % 4) % 4
+turnSum c d = (moveOf c .turn + moveOf d .turn) % 4
 
 abbrev pub joined : ℕ → ℕ → ℕ
-joined c d = c / 4 * 4 + turnSum c d
+joined c d = turnedTo c (turnSum c d)
 
 -- two neighbours that join, in front of what follows: a sum of 0 vanishes
 abbrev pub join : ℕ → ℕ → List ℕ → List ℕ
@@ -53,7 +50,7 @@ Reduced (c ∷ cs) = Apart c cs × Reduced cs
 -- no turn is 0
 abbrev pub Turned : List ℕ → Type 0
 Turned [] = Unit {0}
-Turned (c ∷ cs) = (0 < c % 4) × Turned cs
+Turned (c ∷ cs) = (0 < moveOf c .turn) × Turned cs
 
 -- one joining of two neighbours, anywhere in the list
 pub data Step : List ℕ → List ℕ → Type 0 where
@@ -69,7 +66,7 @@ pub data Steps : List ℕ → List ℕ → Type 0 where
 
 -- each turn t becomes 4 - t
 unfoldable pub inverseOf : ℕ → ℕ
-inverseOf c = c / 4 * 4 + (4 - c % 4)
+inverseOf c = codeOf (back (moveOf c))
 
 -- and the order is reversed
 unfoldable pub inverse : List ℕ → List ℕ
@@ -78,26 +75,19 @@ inverse (c ∷ cs) = inverse cs ++ inverseOf c ∷ []
 
 -- ---- refusals and results
 
--- simplify and invert need output as long as the input
-abbrev pub sameRefusal : ℕ → List ℕ → ℕ → ℕ
-sameRefusal n cs room = fillRefusal n (listRefusal n cs) (length cs) room
+-- 1: the size; 3, 5: a code or a width of the list; 6: the output is shorter than the input
+abbrev pub sameRows : ℕ → List ℕ → ℕ → List Row
+sameRows n cs room = 1 when not (sized n) ∷ (listRows n cs ++ (6 when ltb room (length cs) ∷ []))
 
--- zero from the answer's count up to the input's length; what lies after stays
-unfoldable pub simplifyOut : ℕ → List ℕ → List ℕ → List ℕ
-simplifyOut n cs out =
-    pick (eqb (sameRefusal n cs (length out)) 0)
-    (simplify cs ++ replicate (length cs - length (simplify cs)) 0 ++ drop (length cs) out)
-    out
+unfoldable pub sameRefusal : ℕ → List ℕ → ℕ → ℕ
+sameRefusal n cs room = lowest (sameRows n cs room)
 
-unfoldable pub invertOut : ℕ → List ℕ → List ℕ → List ℕ
-invertOut n cs out = pick (eqb (sameRefusal n cs (length out)) 0) (inverse cs ++ drop (length cs) out) out
-
--- what `simplify_moves` answers and leaves in its output
-pub record SimplifyResult (n : ℕ) (cs out out′ : List ℕ) (r : Answer) : Type 0 where
-  pub answered : r ≡ answer (sameRefusal n cs (length out)) (length (simplify cs))
-  pub written : out′ ≡ simplifyOut n cs out
+-- what `simplify_moves` answers and leaves in its output: zeros up to the input's length, what lies after stays
+abbrev pub SimplifyResult : ℕ → List ℕ → List ℕ → List ℕ → Answer → Type 0
+SimplifyResult n cs out out′ r =
+    AnswerWith (sameRefusal n cs (length out)) (length (simplify cs)) (over (simplify cs ++ replicate (length cs - length (simplify cs)) 0) out)
+    out out′ r
 
 -- what `invert_moves` answers and leaves in its output
-pub record InvertResult (n : ℕ) (cs out out′ : List ℕ) (r : Answer) : Type 0 where
-  pub answered : r ≡ answer (sameRefusal n cs (length out)) (length cs)
-  pub written : out′ ≡ invertOut n cs out
+abbrev pub InvertResult : ℕ → List ℕ → List ℕ → List ℕ → Answer → Type 0
+InvertResult n cs out out′ r = AnswerWith (sameRefusal n cs (length out)) (length cs) (over (inverse cs) out) out out′ r

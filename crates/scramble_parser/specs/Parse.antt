@@ -1,13 +1,14 @@
 -- What a text reads as, and what `parse_scramble` answers and leaves in its output.
 use Prim.Native.Nat.{ℕ}
 use mathlib.Core.Path.{_≡_}
-use mathlib.Core.List.{List, [], _∷_, _++_}
-use lib.ListN.{length, drop}
+use mathlib.Core.List.{List, [], _∷_}
+use lib.ListN.{length}
 use lib.Dec.{ltb}
 use Rattle.ground.specs.Choice.{pick}
-use Rattle.generic_cube.specs.Numbers.{sized}
+use Rattle.ground.specs.Lists.{over}
+use Rattle.generic_cube.specs.Sizes.{sized}
 use Rattle.scramble_parser.specs.Token.{readToken}
-use Rattle.scramble_parser.specs.Words.{Run, wordsFrom}
+use Rattle.scramble_parser.specs.Words.{Run, tokensOf}
 use Rattle.scramble_parser.specs.declared.Token.{Token}
 use Rattle.scramble_parser.specs.declared.Token.the-variants.{Is, Not}
 use Rattle.scramble_parser.specs.declared.Parsed.{Parsed}
@@ -36,21 +37,21 @@ answerOf room (codes cs) = pick (ltb room (length cs)) (Refused 6) (Moves (lengt
 -- the codes fill the first slots, what lies past them stays
 abbrev pub filledBy : List ℕ → Reading → List ℕ
 filledBy out (bad k at) = out
-filledBy out (codes cs) = pick (ltb (length out) (length cs)) out (cs ++ drop (length cs) out)
+filledBy out (codes cs) = pick (ltb (length out) (length cs)) out (over cs out)
 
 -- 1: the size, before all else
 unfoldable pub parseAnswer : ℕ → List ℕ → ℕ → Parsed
-parseAnswer n text room = pick (sized n) (answerOf room (reading n (wordsFrom text 0))) (Refused 1)
+parseAnswer n text room = pick (sized n) (answerOf room (reading n (tokensOf text))) (Refused 1)
 
 unfoldable pub parseOut : ℕ → List ℕ → List ℕ → List ℕ
-parseOut n text out = pick (sized n) (filledBy out (reading n (wordsFrom text 0))) out
+parseOut n text out = pick (sized n) (filledBy out (reading n (tokensOf text))) out
 
 -- what `parse_scramble` answers and leaves in its output
 pub record ParseResult (n : ℕ) (text out out′ : List ℕ) (r : Parsed) : Type 0 where
   pub answered : r ≡ parseAnswer n text (length out)
   pub written : out′ ≡ parseOut n text out
 
--- document 01's number of each case, 0 where nothing is refused
+-- the rules' number of each case, 0 where nothing is refused
 abbrev pub parsedNo : Parsed → ℕ
 parsedNo (Moves count) = 0
 parsedNo (Refused k) = k

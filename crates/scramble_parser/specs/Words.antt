@@ -1,46 +1,45 @@
--- The words of a text: its runs of bytes that are no spaces, each with the place where it starts.
-use Prim.Native.Nat.{ℕ, _+_, _-_, _≤_, _<_}
-use mathlib.Core.Path.{_≡_}
-use mathlib.Core.Bool.{true, false}
-use mathlib.Core.List.{List, [], _∷_, _++_}
-use lib.ListN.{length, getD, take, drop}
-use Rattle.scramble_parser.specs.Token.{isSpace}
-use Rattle.scramble_parser.specs.declared.Next.{Next}
-use Rattle.scramble_parser.specs.declared.Next.the-variants.{End, Word}
+-- The words of a text, each with the place where it starts: its longest parts without spaces. Where a text has signs, each is a word of its
+-- own, and ends the word before it.
+use Prim.Native.Nat.{ℕ, _+_}
+use mathlib.Core.Bool.{Bool, true, false, _||_}
+use mathlib.Core.List.{List, [], _∷_}
+use lib.ListN.{drop}
+use lib.Dec.{eqb}
+use Rattle.ground.specs.Choice.{pick, between, any}
+
+-- tokens are parted by the bytes 9 to 13 and 32
+unfoldable pub isSpace : ℕ → Bool
+isSpace b = eqb b 32 || between 9 13 b
+
+unfoldable pub isSign : List ℕ → ℕ → Bool
+isSign signs b = any (λ s. eqb s b) signs
+
+-- a word ends at a space and at a sign
+unfoldable pub endsWord : List ℕ → ℕ → Bool
+endsWord signs b = isSpace b || isSign signs b
 
 pub record Run : Type 0 where
   pub start : ℕ
   pub bytes : List ℕ
 
--- the word `cur`, which ends before the place `at`, if there is one, in front of `ws`
-abbrev pub flush : ℕ → List ℕ → List Run → List Run
-flush at [] ws = ws
-flush at (b ∷ cur) ws = record { start = at - length (b ∷ cur); bytes = b ∷ cur } ∷ ws
+-- the bytes up to where a word ends
+unfoldable pub wordBytes : List ℕ → List ℕ → List ℕ
+wordBytes signs [] = []
+wordBytes signs (b ∷ bs) = pick (endsWord signs b) [] (b ∷ wordBytes signs bs)
 
--- the words of what stands from the place `at` on, where `cur` is the part of a word that stands right before it
-unfoldable pub words : ℕ → List ℕ → List ℕ → List Run
-words at cur [] = flush at cur []
-words at cur (b ∷ bs) =
-    elim (isSpace b) [ true ↦ flush at cur (words (at + 1) [] bs) | false ↦ words (at + 1) (cur ++ b ∷ []) bs ]
+-- the words that start from the place `at` on, where what stands there is `bs`; `inside` says that the byte before it is a word's
+unfoldable pub words : List ℕ → ℕ → Bool → List ℕ → List Run
+words signs at inside [] = []
+words signs at inside (b ∷ bs) =
+    pick (isSpace b) (words signs (at + 1) false bs)
+    (pick (isSign signs b) (record { start = at; bytes = b ∷ [] } ∷ words signs (at + 1) false bs)
+    (pick inside (words signs (at + 1) true bs)
+    (record { start = at; bytes = b ∷ wordBytes signs bs } ∷ words signs (at + 1) true bs)))
 
 -- the words of a text from a place on that stands in no word
-abbrev pub wordsFrom : List ℕ → ℕ → List Run
-wordsFrom text i = words i [] (drop i text)
+abbrev pub wordsFrom : List ℕ → List ℕ → ℕ → List Run
+wordsFrom signs text i = words signs i false (drop i text)
 
--- the place i was moved to r over spaces
-pub record Skipped (text : List ℕ) (i r : ℕ) : Type 0 where
-  pub from : i ≤ r
-  pub within : r ≤ length text
-  pub same : wordsFrom text i ≡ wordsFrom text r
-  pub stops : r < length text → isSpace (getD text r 0) ≡ false
-
--- the word from s to e is the first from i on
-pub record Found (text : List ℕ) (i s e : ℕ) : Type 0 where
-  pub from : i ≤ s
-  pub some : s < e
-  pub within : e ≤ length text
-  pub one : wordsFrom text i ≡ record { start = s; bytes = take (e - s) (drop s text) } ∷ wordsFrom text e
-
-abbrev pub Ahead : List ℕ → ℕ → Next → Type 0
-Ahead text i End = wordsFrom text i ≡ []
-Ahead text i (Word s e) = Found text i s e
+-- a scramble has no signs
+abbrev pub tokensOf : List ℕ → List Run
+tokensOf text = wordsFrom [] text 0

@@ -1,19 +1,20 @@
 -- The text that the writer makes of a list of codes.
 use Prim.Native.Nat.{ℕ, _+_, _-_, _/_, _%_}
-use mathlib.Core.Path.{_≡_}
+use mathlib.Core.Bool.{not}
 use mathlib.Core.List.{List, [], _∷_, _++_}
 use lib.Dec.{ltb, eqb}
-use lib.ListN.{length, getD, drop}
+use lib.ListN.{length, getD}
 use Rattle.ground.specs.Choice.{pick}
-use Rattle.generic_cube.specs.Numbers.{answer}
-use Rattle.generic_cube.specs.Code.{isWide, readCode, refusalIn}
-use Rattle.generic_cube.specs.AllMoves.{each}
+use Rattle.ground.specs.Lists.{each, over}
+use Rattle.ground.specs.Refusals.{Row, _when_, lowest}
+use Rattle.generic_cube.specs.Sizes.{sized}
+use Rattle.generic_cube.specs.Answers.{AnswerWith}
+use Rattle.generic_cube.specs.Code.{isWide, readCode, rowsIn}
 use Rattle.generic_cube.specs.declared.Move.{Move}
 use Rattle.generic_cube.specs.declared.Code.{Code}
 use Rattle.generic_cube.specs.declared.Code.the-variants.{Taken, Refused}
 use Rattle.generic_cube.specs.declared.Answer.{Answer}
 use Rattle.scramble_parser.specs.Token.{kindLetters}
-use Rattle.scramble_parser.specs.Room.{fillRefusal}
 
 -- the letter of a kind: a wide kind's is its face's
 unfoldable pub kindByte : ℕ → ℕ
@@ -52,14 +53,14 @@ unfoldable pub listText : List ℕ → List ℕ
 listText [] = []
 listText (c ∷ cs) = textOf c ++ restText cs
 
--- 1: the size; 3; 5: a width of 1 or n too; 6: the output room is the exact text length
-unfoldable pub writeRefusal : ℕ → List ℕ → ℕ → ℕ
-writeRefusal n cs room = fillRefusal n (refusalIn 2 (n - 1) cs) (length (listText cs)) room
+-- 1: the size; 3, 5: a code or a width of the list, 1 and n too; 6: the output is shorter than the text
+abbrev pub writeRows : ℕ → List ℕ → ℕ → List Row
+writeRows n cs room = 1 when not (sized n) ∷ (rowsIn 2 (n - 1) cs ++ (6 when ltb room (length (listText cs)) ∷ []))
 
-unfoldable pub writeOut : ℕ → List ℕ → List ℕ → List ℕ
-writeOut n cs out = pick (eqb (writeRefusal n cs (length out)) 0) (listText cs ++ drop (length (listText cs)) out) out
+unfoldable pub writeRefusal : ℕ → List ℕ → ℕ → ℕ
+writeRefusal n cs room = lowest (writeRows n cs room)
 
 -- what `write_scramble` answers and leaves in its output
-pub record WriteResult (n : ℕ) (cs out out′ : List ℕ) (r : Answer) : Type 0 where
-  pub answered : r ≡ answer (writeRefusal n cs (length out)) (length (listText cs))
-  pub written : out′ ≡ writeOut n cs out
+abbrev pub WriteResult : ℕ → List ℕ → List ℕ → List ℕ → Answer → Type 0
+WriteResult n cs out out′ r =
+    AnswerWith (writeRefusal n cs (length out)) (length (listText cs)) (over (listText cs) out) out out′ r

@@ -4,10 +4,11 @@ ghost use mathlib.Core.Bool.{true};
 ghost use Prim.Native.Nat.{_≤_};
 ghost use lib.ListN.{length};
 ghost use lib.Seq.{sets};
-ghost use Rattle.generic_cube.specs.Numbers.{sized};
-ghost use Rattle.scramble_parser.specs.Words.{wordsFrom};
+ghost use Rattle.generic_cube.specs.Sizes.{sized};
+ghost use Rattle.scramble_parser.specs.Words.{tokensOf};
 ghost use Rattle.scramble_parser.specs.Parse.{reading, ParseResult};
-ghost use Rattle.scramble_parser.specs.ParseLaws.{tally, prefix};
+ghost use Rattle.scramble_parser.specs.Inner.{tally, prefix};
+use ground::codes::MoveCode;
 
 pub mod lists;
 pub mod tokens;
@@ -23,7 +24,7 @@ pub enum Parsed {
 
 // A token's answer: the code of a move, or the number of a refusal.
 pub enum Token {
-    Is(u16),
+    Is(MoveCode),
     Not(u8),
 }
 
@@ -42,12 +43,12 @@ pub enum Next {
 // Reads the whole text and counts its moves, or finds its first bad token.
 fn count_moves(n: usize, text: &[u8]) -> Parsed
     requires { ⌜ sized n ≡ true ⌝ }
-    ensures { λ r. ⌜ r ≡ tally 0 (reading n (wordsFrom (now (text .entry)) 0)) ⌝ }
+    ensures { λ r. ⌜ r ≡ tally 0 (reading n (tokensOf (now (text .entry)))) ⌝ }
 {
     let mut i = 0;
     let mut count: usize = 0;
     loop {
-        let Next::Word { start, end } = words::next_word(text, i) else {
+        let Next::Word { start, end } = words::next_token(text, i) else {
             return Parsed::Moves(count);
         };
         match tokens::read_token(n, &text[start..end]) {
@@ -63,14 +64,14 @@ fn count_moves(n: usize, text: &[u8]) -> Parsed
 }
 
 // Writes the moves of the text, up to the first word that is none.
-fn write_moves(n: usize, text: &[u8], out: &mut [u16])
-    requires { ⌜ (sized n ≡ true) × (length (prefix n (wordsFrom (now text) 0)) ≤ length (now out)) ⌝ }
-    ensures { λ r. ⌜ now (out .exit) ≡ sets (now (out .entry)) 0 (prefix n (wordsFrom (now (text .entry)) 0)) ⌝ }
+fn write_moves(n: usize, text: &[u8], out: &mut [MoveCode])
+    requires { ⌜ (sized n ≡ true) × (length (prefix n (tokensOf (now text))) ≤ length (now out)) ⌝ }
+    ensures { λ r. ⌜ now (out .exit) ≡ sets (now (out .entry)) 0 (prefix n (tokensOf (now (text .entry)))) ⌝ }
 {
     let mut i = 0;
     let mut j: usize = 0;
     loop {
-        let Next::Word { start, end } = words::next_word(text, i) else {
+        let Next::Word { start, end } = words::next_token(text, i) else {
             return;
         };
         let Token::Is(code) = tokens::read_token(n, &text[start..end]) else {
@@ -83,7 +84,7 @@ fn write_moves(n: usize, text: &[u8], out: &mut [u16])
 }
 
 // Reads a text as moves. Nothing is written before all is known.
-pub fn parse_scramble(n: usize, text: &[u8], out: &mut [u16]) -> Parsed
+pub fn parse_scramble(n: usize, text: &[u8], out: &mut [MoveCode]) -> Parsed
     ensures { λ r. ⌜ ParseResult n (now (text .entry)) (now (out .entry)) (now (out .exit)) r ⌝ }
 {
     if generic_cube::is_size(n) {

@@ -1,13 +1,15 @@
 ghost use mathlib.Core.Path.{_≡_};
-ghost use Prim.Native.Nat.{_<_, _≤_, _%_};
+ghost use Prim.Native.Nat.{_<_, _≤_};
 ghost use lib.ListN.{length};
 ghost use lib.Seq.{sets};
+ghost use Rattle.generic_cube.specs.Code.{moveOf};
 ghost use Rattle.scramble_parser.specs.Lists.{Turned, inverseOf, inverse, sameRefusal, SimplifyResult, InvertResult};
-ghost use Rattle.scramble_parser.specs.SimplifyLaws.{Pushable, Pushed, Shrunk};
+ghost use Rattle.scramble_parser.specs.Inner.{Pushable, Pushed, Shrunk};
 use generic_cube::Answer;
+use ground::codes::MoveCode;
 
 // The refusal of a list whose answer needs as much room as itself, 0 for none.
-fn same_refusal(n: usize, list: &[u16], room: usize) -> u8
+fn same_refusal(n: usize, list: &[MoveCode], room: usize) -> u8
     ensures { λ r. ⌜ r ≡ sameRefusal n (now (list .entry)) room ⌝ }
 {
     if generic_cube::is_size(n) {
@@ -24,7 +26,7 @@ fn same_refusal(n: usize, list: &[u16], room: usize) -> u8
 }
 
 // One more code on a stack in which nothing joins, the first k of `out`.
-fn push(out: &mut [u16], k: usize, code: u16) -> usize
+fn push(out: &mut [MoveCode], k: usize, code: MoveCode) -> usize
     requires { ⌜ Pushable (now out) k code ⌝ }
     ensures { λ r. ⌜ Pushed (now (out .entry)) k code (now (out .exit)) r ⌝ }
 {
@@ -33,20 +35,20 @@ fn push(out: &mut [u16], k: usize, code: u16) -> usize
         return k + 1;
     }
     let top = out[k - 1];
-    if top / 4 != code / 4 {
+    if !generic_cube::do_join(top, code) {
         out[k] = code;
         return k + 1;
     }
-    let turn = (top % 4 + code % 4) % 4;
+    let turn = (generic_cube::turn_of(top) + generic_cube::turn_of(code)) % 4;
     if turn == 0 {
         return k - 1;
     }
-    out[k - 1] = top / 4 * 4 + turn;
+    out[k - 1] = generic_cube::with_turn(top, turn);
     k
 }
 
 // The simplified list at the front of `out`.
-fn stack(list: &[u16], out: &mut [u16]) -> usize
+fn stack(list: &[MoveCode], out: &mut [MoveCode]) -> usize
     requires { ⌜ (length (now list) ≤ length (now out)) × Turned (now list) ⌝ }
     ensures { λ r. ⌜ Shrunk (now (list .entry)) (now (out .entry)) (now (out .exit)) r ⌝ }
 {
@@ -60,7 +62,7 @@ fn stack(list: &[u16], out: &mut [u16]) -> usize
 }
 
 // Joins neighbours until none join.
-pub fn simplify_moves(n: usize, list: &[u16], out: &mut [u16]) -> Answer
+pub fn simplify_moves(n: usize, list: &[MoveCode], out: &mut [MoveCode]) -> Answer
     ensures { λ r. ⌜ SimplifyResult n (now (list .entry)) (now (out .entry)) (now (out .exit)) r ⌝ }
 {
     let number = same_refusal(n, list, out.len());
@@ -69,19 +71,19 @@ pub fn simplify_moves(n: usize, list: &[u16], out: &mut [u16]) -> Answer
     }
     let count = stack(list, out);
     let end = list.len();
-    ground::words::clear(&mut out[count..end]);
+    ground::codes::clear(&mut out[count..end]);
     Answer::Value(count)
 }
 
 // The turn t becomes 4 - t.
-fn inverse_code(code: u16) -> u16
-    requires { ⌜ 0 < code % 4 ⌝ }
+fn inverse_code(code: MoveCode) -> MoveCode
+    requires { ⌜ 0 < moveOf code .turn ⌝ }
     ensures { λ r. ⌜ r ≡ inverseOf code ⌝ }
 {
-    code / 4 * 4 + (4 - code % 4)
+    generic_cube::with_turn(code, 4 - generic_cube::turn_of(code))
 }
 
-fn invert_into(list: &[u16], out: &mut [u16])
+fn invert_into(list: &[MoveCode], out: &mut [MoveCode])
     requires { ⌜ (length (now list) ≤ length (now out)) × Turned (now list) ⌝ }
     ensures { λ r. ⌜ now (out .exit) ≡ sets (now (out .entry)) 0 (inverse (now (list .entry))) ⌝ }
 {
@@ -93,7 +95,7 @@ fn invert_into(list: &[u16], out: &mut [u16])
 }
 
 // The moves that undo a list's.
-pub fn invert_moves(n: usize, list: &[u16], out: &mut [u16]) -> Answer
+pub fn invert_moves(n: usize, list: &[MoveCode], out: &mut [MoveCode]) -> Answer
     ensures { λ r. ⌜ InvertResult n (now (list .entry)) (now (out .entry)) (now (out .exit)) r ⌝ }
 {
     let number = same_refusal(n, list, out.len());

@@ -1,11 +1,13 @@
 ghost use mathlib.Core.Path.{_≡_};
-ghost use mathlib.Core.Bool.{true};
+ghost use mathlib.Core.Bool.{true, false};
 ghost use Prim.Native.Nat.{_<_, _≤_};
 ghost use lib.ListN.{getD};
-ghost use Rattle.generic_cube.specs.Numbers.{sized};
-ghost use Rattle.scramble_parser.specs.Token.{letterOf, suffixAt, digitOf, digitsOf, numberOf, plainOf, wideOf, startsWide, readToken};
+ghost use Rattle.generic_cube.specs.Sizes.{sized};
+ghost use Rattle.scramble_parser.specs.Token.{letterOf, letterAt, markOf, digitOf, digitsOf, numberOf, tokenWidth, isWideToken, plainKind, badDigits, readBehind, readToken};
+ghost use Rattle.scramble_parser.specs.Inner.{Lettered};
 use crate::Mark;
 use crate::Token;
+use generic_cube::Move;
 
 // The byte at i, 0 past the end.
 fn at(t: &[u8], i: usize) -> u8
@@ -49,18 +51,39 @@ fn letter_at(t: &[u8], i: usize) -> usize
     letter(at(t, i))
 }
 
+// How many bytes a suffix takes that starts with b.
+fn mark_size(b: u8) -> usize
+    ensures { λ r. ⌜ (r ≡ markOf b .size) × (r ≤ 1) ⌝ }
+{
+    if b == 50 {
+        return 1;
+    }
+    if b == 39 {
+        return 1;
+    }
+    0
+}
+
+// The turn of a suffix that starts with b: `2` is a half turn, `'` a quarter back.
+fn mark_turn(b: u8) -> usize
+    ensures { λ r. ⌜ (r ≡ markOf b .turn) × (r ≤ 3) ⌝ }
+{
+    if b == 50 {
+        return 2;
+    }
+    if b == 39 {
+        return 3;
+    }
+    1
+}
+
 // The suffix that starts at i.
 fn suffix(t: &[u8], i: usize) -> Mark
-    ensures { λ r. ⌜ (r ≡ suffixAt (now (t .entry)) i) × (r .turn ≤ 3) × (r .size ≤ 1) ⌝ }
+    ensures { λ r. ⌜ (r ≡ markOf (getD (now (t .entry)) i 0)) × (r .turn ≤ 3) × (r .size ≤ 1) ⌝ }
 {
-    let sign = at(t, i);
-    if sign == 50 {
-        return Mark { turn: 2, size: 1 };
-    }
-    if sign == 39 {
-        return Mark { turn: 3, size: 1 };
-    }
-    Mark { turn: 1, size: 0 }
+    let size = mark_size(at(t, i));
+    let turn = mark_turn(at(t, i));
+    Mark { turn, size }
 }
 
 // The value of the digit at i, 10 for any other byte.
@@ -112,54 +135,115 @@ pub fn number(t: &[u8], k: usize) -> usize
     a * 100 + b * 10 + c
 }
 
-// A letter and a suffix.
-fn plain(t: &[u8]) -> Token
-    ensures { λ r. ⌜ r ≡ plainOf (now (t .entry)) ⌝ }
+// The width: what the k digits write, 2 where there are none.
+fn width(t: &[u8], k: usize) -> usize
+    ensures { λ r. ⌜ r ≡ tokenWidth (now (t .entry)) k ⌝ }
+{
+    if k == 0 {
+        return 2;
+    }
+    number(t, k)
+}
+
+// Whether the digits start with 0 or number more than three.
+fn has_bad_digits(t: &[u8], k: usize) -> bool
+    ensures { λ r. ⌜ r ≡ badDigits (now (t .entry)) k ⌝ }
+{
+    if at(t, 0) == 48 {
+        return true;
+    }
+    3 < k
+}
+
+// Whether the letter behind k digits is a face's and `w` stands after it.
+fn is_wide_token(t: &[u8], k: usize, place: usize) -> bool
+    requires { ⌜ (k ≤ 4) × (place ≡ letterAt (now t) k) ⌝ }
+    ensures { λ r. ⌜ r ≡ isWideToken (now (t .entry)) k ⌝ }
+{
+    if 5 < place {
+        return false;
+    }
+    at(t, k + 1) == 119
+}
+
+// The kind of a letter without `w`.
+fn plain_kind(place: usize) -> usize
+    requires { ⌜ place ≤ 9 ⌝ }
+    ensures { λ r. ⌜ r ≡ plainKind place ⌝ }
+{
+    if place < 6 {
+        return place;
+    }
+    place + 6
+}
+
+// A letter without digits and `w`: its suffix, and nothing after it.
+fn plain(n: usize, t: &[u8], place: usize) -> Token
+    requires { ⌜ (Lettered (now t) 0 place) × (isWideToken (now t) 0 ≡ false) ⌝ }
+    ensures { λ r. ⌜ r ≡ readBehind n (now (t .entry)) 0 ⌝ }
+{
+    let mark = suffix(t, 1);
+    if t.len() != 1 + mark.size {
+        return Token::Not(4);
+    }
+    let kind = plain_kind(place);
+    let turn = mark.turn;
+    Token::Is(generic_cube::code_of(Move {
+        kind,
+        width: 0,
+        turn,
+    }))
+}
+
+// A face's letter behind k digits, with `w`: its suffix, nothing after it, and the width.
+fn wide(n: usize, t: &[u8], k: usize, place: usize) -> Token
+    requires { ⌜ (sized n ≡ true) × (Lettered (now t) k place) × (isWideToken (now t) k ≡ true) ⌝ }
+    ensures { λ r. ⌜ r ≡ readBehind n (now (t .entry)) k ⌝ }
+{
+    let mark = suffix(t, k + 2);
+    if t.len() != k + 2 + mark.size {
+        return Token::Not(4);
+    }
+    let width = width(t, k);
+    if generic_cube::is_outside(2, n - 1, width) {
+        return Token::Not(5);
+    }
+    let kind = place + 6;
+    let turn = mark.turn;
+    Token::Is(generic_cube::code_of(Move { kind, width, turn }))
+}
+
+// A token without digits: a letter with a suffix, or a face's letter, `w` and a suffix.
+fn read_bare(n: usize, t: &[u8]) -> Token
+    requires { ⌜ (sized n ≡ true) × (digitsOf (now t) ≡ 0) ⌝ }
+    ensures { λ r. ⌜ r ≡ readBehind n (now (t .entry)) 0 ⌝ }
 {
     let place = letter_at(t, 0);
     if place == 9 {
         return Token::Not(4);
     }
-    let mark = suffix(t, 1);
-    if t.len() != 1 + mark.size {
-        return Token::Not(4);
+    if is_wide_token(t, 0, place) {
+        return wide(n, t, 0, place);
     }
-    if place < 6 {
-        return Token::Is((place * 4 + mark.turn) as u16);
-    }
-    Token::Is(((place + 6) * 4 + mark.turn) as u16)
+    plain(n, t, place)
 }
 
-// A face's letter at k, `w` and a suffix; the width was read before.
-fn wide(n: usize, w: usize, t: &[u8], k: usize) -> Token
-    requires { ⌜ (k ≤ 4) × (sized n ≡ true) ⌝ }
-    ensures { λ r. ⌜ r ≡ wideOf n w (now (t .entry)) k ⌝ }
+// A token with k digits: a face's letter, `w` and a suffix.
+fn read_numbered(n: usize, t: &[u8], k: usize) -> Token
+    requires { ⌜ (sized n ≡ true) × (0 < k) × (k ≤ 4) ⌝ }
+    ensures { λ r. ⌜ r ≡ readBehind n (now (t .entry)) k ⌝ }
 {
+    if has_bad_digits(t, k) {
+        return Token::Not(4);
+    }
     let place = letter_at(t, k);
     if 6 <= place {
         return Token::Not(4);
     }
-    if at(t, k + 1) != 119 {
-        return Token::Not(4);
+    if is_wide_token(t, k, place) {
+        return wide(n, t, k, place);
     }
-    let mark = suffix(t, k + 2);
-    if t.len() != k + 2 + mark.size {
-        return Token::Not(4);
-    }
-    if generic_cube::is_outside(2, n - 1, w) {
-        return Token::Not(5);
-    }
-    Token::Is((w * 64 + (place + 6) * 4 + mark.turn) as u16)
-}
-
-// Whether a face's letter and `w` stand at the front.
-fn starts_wide(t: &[u8]) -> bool
-    ensures { λ r. ⌜ r ≡ startsWide (now (t .entry)) ⌝ }
-{
-    if letter_at(t, 0) < 6 {
-        return at(t, 1) == 119;
-    }
-    false
+    Token::Not(4)
 }
 
 // Reads a token from left to right.
@@ -169,16 +253,7 @@ pub fn read_token(n: usize, t: &[u8]) -> Token
 {
     let k = digits(t);
     if k == 0 {
-        if starts_wide(t) {
-            return wide(n, 2, t, 0);
-        }
-        return plain(t);
+        return read_bare(n, t);
     }
-    if k == 4 {
-        return Token::Not(4);
-    }
-    if at(t, 0) == 48 {
-        return Token::Not(4);
-    }
-    wide(n, number(t, k), t, k)
+    read_numbered(n, t, k)
 }

@@ -3,12 +3,13 @@ ghost use mathlib.Core.List.{[], _∷_};
 ghost use Prim.Native.Nat.{_<_, _≤_, _+_};
 ghost use lib.ListN.{length};
 ghost use lib.Dec.{leb};
-ghost use Rattle.generic_cube.specs.AllMovesLaws.{Put};
+ghost use Rattle.ground.specs.Inner.{Put};
 ghost use Rattle.scramble_parser.specs.Write.{kindByte, markText, widthText, tokenText, textOf, restText, listText, writeRefusal, WriteResult};
-ghost use Rattle.scramble_parser.specs.WriteLaws.{Writable};
+ghost use Rattle.scramble_parser.specs.Inner.{Writable};
 use generic_cube::Answer;
 use generic_cube::Code;
 use generic_cube::Move;
+use ground::codes::MoveCode;
 
 // U L F R B D x y z.
 const LETTERS: [u8; 9] = [85, 76, 70, 82, 66, 68, 120, 121, 122];
@@ -90,7 +91,7 @@ fn put_token(out: &mut [u8], at: usize, m: Move) -> usize
     put_mark(out, a, turn)
 }
 
-fn put_code(out: &mut [u8], at: usize, code: u16) -> usize
+fn put_code(out: &mut [u8], at: usize, code: MoveCode) -> usize
     requires { ⌜ at + length (textOf code) ≤ length (now out) ⌝ }
     ensures { λ r. ⌜ Put (now (out .entry)) at (textOf code) (now (out .exit)) r ⌝ }
 {
@@ -101,7 +102,7 @@ fn put_code(out: &mut [u8], at: usize, code: u16) -> usize
 }
 
 // A space and a token for each code.
-fn put_rest(out: &mut [u8], start: usize, list: &[u16]) -> usize
+fn put_rest(out: &mut [u8], start: usize, list: &[MoveCode]) -> usize
     requires { ⌜ start + length (restText (now list)) ≤ length (now out) ⌝ }
     ensures { λ r. ⌜ Put (now (out .entry)) start (restText (now (list .entry))) (now (out .exit)) r ⌝ }
 {
@@ -116,7 +117,7 @@ fn put_rest(out: &mut [u8], start: usize, list: &[u16]) -> usize
 }
 
 // The text of a list for which there is room.
-fn put_text(list: &[u16], out: &mut [u8]) -> usize
+fn put_text(list: &[MoveCode], out: &mut [u8]) -> usize
     requires { ⌜ length (listText (now list)) ≤ length (now out) ⌝ }
     ensures { λ r. ⌜ Put (now (out .entry)) 0 (listText (now (list .entry))) (now (out .exit)) r ⌝ }
 {
@@ -167,7 +168,7 @@ fn token_len(m: Move) -> usize
     1 + mark
 }
 
-fn code_len(code: u16) -> usize
+fn code_len(code: MoveCode) -> usize
     ensures { λ r. ⌜ (r ≡ length (textOf code)) × (r ≤ 6) ⌝ }
 {
     let Code::Taken(m) = generic_cube::read_code(code) else {
@@ -177,7 +178,7 @@ fn code_len(code: u16) -> usize
 }
 
 // Whether there is room for a space and a token for each code. What is left is counted, so that no sum can wrap.
-fn rest_fits(list: &[u16], room: usize) -> bool
+fn rest_fits(list: &[MoveCode], room: usize) -> bool
     ensures { λ r. ⌜ r ≡ leb (length (restText (now (list .entry)))) room ⌝ }
 {
     let mut left = room;
@@ -194,7 +195,7 @@ fn rest_fits(list: &[u16], room: usize) -> bool
 }
 
 // Whether there is room for the text of a list.
-fn text_fits(list: &[u16], room: usize) -> bool
+fn text_fits(list: &[MoveCode], room: usize) -> bool
     ensures { λ r. ⌜ r ≡ leb (length (listText (now (list .entry)))) room ⌝ }
 {
     if list.len() == 0 {
@@ -208,7 +209,7 @@ fn text_fits(list: &[u16], room: usize) -> bool
 }
 
 // The refusal of a list that is written, 0 for none: a width is above 1 and below n.
-fn write_refusal(n: usize, list: &[u16], room: usize) -> u8
+fn write_refusal(n: usize, list: &[MoveCode], room: usize) -> u8
     ensures { λ r. ⌜ r ≡ writeRefusal n (now (list .entry)) room ⌝ }
 {
     if generic_cube::is_size(n) {
@@ -225,7 +226,7 @@ fn write_refusal(n: usize, list: &[u16], room: usize) -> u8
 }
 
 // Writes a list as text.
-pub fn write_scramble(n: usize, list: &[u16], out: &mut [u8]) -> Answer
+pub fn write_scramble(n: usize, list: &[MoveCode], out: &mut [u8]) -> Answer
     ensures { λ r. ⌜ WriteResult n (now (list .entry)) (now (out .entry)) (now (out .exit)) r ⌝ }
 {
     let number = write_refusal(n, list, out.len());

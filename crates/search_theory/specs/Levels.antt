@@ -3,14 +3,11 @@
 use Prim.Native.Nat.{ℕ, zero, suc, _≤_, _<_}
 use mathlib.Core.Path.{_≡_}
 use mathlib.Core.List.{List, List·Memᴰ}
-
--- s stands among n keys
-abbrev pub Present : (ℕ → List ℕ) → ℕ → List ℕ → Type 0
-Present key n s = (i : ℕ) × (i < n) × (key i ≡ s)
+use Rattle.table.specs.Entries.{Present}
 
 module _ (moved : ℕ → List ℕ → List ℕ) (candidates : List ℕ) (Start : List ℕ → Type 0) where
   -- one candidate leads from such a state to s
-  pub record Step (From : List ℕ → Type 0) (s : List ℕ) : Type 0 where
+  pub record OneMove (From : List ℕ → Type 0) (s : List ℕ) : Type 0 where
     pub state : List ℕ
     pub move : ℕ
     pub from : From state
@@ -18,24 +15,17 @@ module _ (moved : ℕ → List ℕ → List ℕ) (candidates : List ℕ) (Start 
     pub leads : s ≡ moved move state
 
   -- exactly n candidates lead from a start to s
-  abbrev pub Reach : ℕ → List ℕ → Type 0
-  Reach zero s = Start s
-  Reach (suc n) s = Step (Reach n) s
+  abbrev pub ReachIn : ℕ → List ℕ → Type 0
+  ReachIn zero s = Start s
+  ReachIn (suc n) s = OneMove (ReachIn n) s
 
   -- and no fewer do
   pub record Least (n : ℕ) (s : List ℕ) : Type 0 where
-    pub reached : Reach n s
-    pub least : (j : ℕ) → j < n → Reach j s → ⊥
+    pub reached : ReachIn n s
+    pub least : (j : ℕ) → j < n → ReachIn j s → ⊥
 
-  -- of n keys and numbers each is right; and each state reached by at most `depth` candidates is there
-  pub record Holds (most depth : ℕ) (key : ℕ → List ℕ) (number : ℕ → ℕ) (n : ℕ) : Type 0 where
-    pub shallow : (i : ℕ) → i < n → number i ≤ most
+  -- n keys and numbers, exact to a depth: each is right, none is above it, and each state reached by at most so many candidates is there
+  pub record Exact (depth : ℕ) (key : ℕ → List ℕ) (number : ℕ → ℕ) (n : ℕ) : Type 0 where
+    pub shallow : (i : ℕ) → i < n → number i ≤ depth
     pub right : (i : ℕ) → i < n → Least (number i) (key i)
-    pub whole : (j : ℕ) (s : List ℕ) → j ≤ depth → Reach j s → Present key n s
-
-  -- exact to a depth; and on the way from there to the next
-  abbrev pub Exact : ℕ → (ℕ → List ℕ) → (ℕ → ℕ) → ℕ → Type 0
-  Exact depth key number n = Holds depth depth key number n
-
-  abbrev pub Growing : ℕ → (ℕ → List ℕ) → (ℕ → ℕ) → ℕ → Type 0
-  Growing depth key number n = Holds (suc depth) depth key number n
+    pub whole : (j : ℕ) (s : List ℕ) → j ≤ depth → ReachIn j s → Present key n s

@@ -14,14 +14,14 @@ pub data Reply : Type 0 where
   found : List ℕ → Reply
 
 -- the first of two answers that is a list
-unfoldable pub or : Reply → Reply → Reply
-or none b = b
-or (found p) b = found p
+unfoldable pub orElse : Reply → Reply → Reply
+orElse none b = b
+orElse (found p) b = found p
 
 -- the first list that f answers along its arguments
-unfoldable pub first : (ℕ → Reply) → List ℕ → Reply
-first f [] = none
-first f (c ∷ cs) = or (f c) (first f cs)
+unfoldable pub firstOf : (ℕ → Reply) → List ℕ → Reply
+firstOf f [] = none
+firstOf f (c ∷ cs) = orElse (f c) (firstOf f cs)
 
 -- what a search is over: the state after a move, the number of a state, which moves may not be neighbours, and the candidates
 pub record Task : Type 0 where
@@ -44,21 +44,21 @@ module _ (t : Task) where
   dfs (suc left) path s =
       pick (eqb (t .number s) 0) (found path)
       (pick (ltb (suc left) (t .number s)) none
-      (first (λ c. pick (bars (t .barred) path c) none (dfs left (path ++ (c ∷ [])) (t .moved c s))) (t .candidates)))
+      (firstOf (λ c. pick (bars (t .barred) path c) none (dfs left (path ++ (c ∷ [])) (t .moved c s))) (t .candidates)))
 
   -- the passes with 0, 1, .. moves, n of them, up to the first that finds a list
   unfoldable pub passes : ℕ → List ℕ → Reply
   passes zero s = none
-  passes (suc n) s = or (passes n s) (dfs n [] s)
+  passes (suc n) s = orElse (passes n s) (dfs n [] s)
 
   -- `dfs` under rising limits
   abbrev pub ida : ℕ → List ℕ → Reply
   ida limit s = passes (suc limit) s
 
   -- where a list of moves leads
-  unfoldable pub run : List ℕ → List ℕ → List ℕ
-  run [] s = s
-  run (c ∷ q) s = run q (t .moved c s)
+  unfoldable pub runTask : List ℕ → List ℕ → List ℕ
+  runTask [] s = s
+  runTask (c ∷ q) s = runTask q (t .moved c s)
 
   -- a list is allowed if each move is a candidate and no two neighbours are barred
   pub record Allowed (q : List ℕ) : Type 0 where
@@ -68,13 +68,13 @@ module _ (t : Task) where
   -- an allowed list that reaches a goal
   pub record Solves (s q : List ℕ) : Type 0 where
     pub allowed : Allowed q
-    pub goal : t .number (run q s) ≡ 0
+    pub goal : t .number (runTask q s) ≡ 0
 
   -- p is no later than q in candidate order, which compares positions from the front
-  abbrev pub Leads : List ℕ → List ℕ → Type 0
-  Leads [] q = Unit {0}
-  Leads (a ∷ p) [] = ⊥
-  Leads (a ∷ p) (b ∷ q) = (position a (t .candidates) < position b (t .candidates)) ⊎ ((a ≡ b) × Leads p q)
+  abbrev pub NoLater : List ℕ → List ℕ → Type 0
+  NoLater [] q = Unit {0}
+  NoLater (a ∷ p) [] = ⊥
+  NoLater (a ∷ p) (b ∷ q) = (position a (t .candidates) < position b (t .candidates)) ⊎ ((a ≡ b) × NoLater p q)
 
   -- the number of each state is never above the length of an allowed list from there to a goal
   abbrev pub Admissible : (List ℕ → Type 0) → Type 0
@@ -85,7 +85,7 @@ module _ (t : Task) where
     pub solves : Solves s p
     pub within : length p ≤ limit
     pub shortest : (q : List ℕ) → Solves s q → length p ≤ length q
-    pub leads : (q : List ℕ) → Solves s q → length q ≡ length p → Leads p q
+    pub leads : (q : List ℕ) → Solves s q → length q ≡ length p → NoLater p q
 
   -- demand 3: such a list, and none exactly if no allowed list within the limit reaches a goal
   abbrev pub Best : ℕ → List ℕ → Reply → Type 0

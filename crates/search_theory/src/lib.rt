@@ -1,2 +1,1 @@
-// The search and the levels of a table over any moves: definitions and theorems in specs/, and no code but this.
-pub fn nothing() {}
+// The search and the levels of a table over any moves: definitions in specs/, laws in proofs/, and no code.

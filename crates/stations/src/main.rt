@@ -1,100 +1,123 @@
-// Document 01's cases, run: each line says what was asked, and what the library answered. Then the crate's answers, replayed.
-use generic_cube::Answer;
-use generic_cube::Done;
-use ida_star::Outcome;
+// Replays the records of standard input through the C functions, a record a line, and counts what differs: RECORDS.md says what stands in them.
+use libc::STDIN_FILENO;
 use libc::STDOUT_FILENO;
-use scramble_parser::Parsed;
 
+mod calls;
 mod fields;
-mod ground_floor;
-mod notation;
-mod refusals;
-mod replay;
-mod replay_cubes;
-mod replay_lists;
-mod replay_solving;
-mod solving;
+
+// What came of a record: 0 the library gave what it says, 1 it gave something else, 2 the line is no record.
+fn replay(line: &[u8]) -> u8 {
+    let mut told: u8 = 0;
+    if fields::separators(line) != 16 {
+        return 2;
+    }
+    if calls::entry_of(fields::field(line, 0)) == 15 {
+        return 2;
+    }
+    calls::replay(line, &mut told);
+    told
+}
 
 fn write(text: &[u8]) {
     io::write_all(STDOUT_FILENO, text);
 }
 
-fn end_line() {
+// Says of a line what came of it.
+fn tell(at: usize, what: &[u8], line: &[u8]) {
+    write(b"line ");
+    io::print_decimal(STDOUT_FILENO, at as u64);
+    write(what);
+    write(fields::field(line, 0));
     write(b"\n");
 }
 
-fn write_number(x: usize) {
-    io::print_decimal(STDOUT_FILENO, x as u64);
-}
-
-fn write_refusal(k: u8) {
-    write(b"refused ");
-    io::print_decimal(STDOUT_FILENO, k as u64);
-}
-
-fn write_done(r: Done) {
-    match r {
-        Done::Ok => write(b"done"),
-        Done::Refused(k) => write_refusal(k),
+// One more in a tally; there are never so many lines that a count wraps.
+fn add(tally: &mut [u64; 3], k: usize) {
+    if k < 3 {
+        tally[k] = std::num::wrapping_add_u64(tally[k], 1);
     }
 }
 
-fn write_answer(r: Answer) {
-    match r {
-        Answer::Value(x) => write_number(x),
-        Answer::Refused(k) => write_refusal(k),
+fn replay_line(at: usize, line: &[u8], tally: &mut [u64; 3]) {
+    let told = replay(line);
+    add(tally, told as usize);
+    match told {
+        0 => (),
+        1 => tell(at, b" differs: ", line),
+        _ => tell(at, b" is no record: ", line),
     }
 }
 
-fn write_parsed(r: Parsed) {
-    match r {
-        Parsed::Moves(count) => write_number(count),
-        Parsed::Refused(k) => write_refusal(k),
-        Parsed::RefusedAt(k, at) => {
-            write_refusal(k);
-            write(b" at ");
-            write_number(at);
-        }
-    }
+// The next byte of the input, if there is one.
+enum Next {
+    Byte(u8),
+    End,
 }
 
-fn write_outcome(r: Outcome) {
-    match r {
-        Outcome::Found(count) => {
-            write(b"found ");
-            write_number(count);
-        }
-        Outcome::Nothing => write(b"none"),
-        Outcome::Refused(k) => write_refusal(k),
+fn read_byte() -> Next {
+    let mut one = [0u8; 1];
+    if io::read_full(STDIN_FILENO, &mut one) == 0 {
+        return Next::End;
     }
+    Next::Byte(one[0])
 }
 
-// The first codes of a list, each after a space.
-fn write_codes(codes: &[u16], count: usize) {
+// Reads up to a line feed: the bytes before it; as many as there is room for where a line has no end or is too long, one more at the end of
+// the input.
+fn read_line(line: &mut [u8]) -> usize {
     let mut i: usize = 0;
-    while i < codes.len() {
-        if i < count {
-            write(b" ");
-            write_number(codes[i] as usize);
+    while i < line.len() {
+        let Next::Byte(b) = read_byte() else {
+            if i == 0 {
+                return line.len() + 1;
+            }
+            return line.len();
+        };
+        if b == 10 {
+            return i;
         }
+        line[i] = b;
         i += 1;
     }
+    i
 }
 
-// Bytes as numbers, each after a space.
-fn write_bytes(bytes: &[u8]) {
-    let mut i: usize = 0;
-    while i < bytes.len() {
-        write(b" ");
-        write_number(bytes[i] as usize);
-        i += 1;
+// A line that was read, or what is there of one. One that begins with a hyphen is a remark.
+fn replay_read(at: usize, line: &[u8], k: usize, tally: &mut [u64; 3]) {
+    let read = fields::front(line, k);
+    if k == line.len() {
+        add(tally, 2);
+        tell(at, b" is cut or too long: ", b"");
+        return;
     }
+    if fields::is_remark(read) {
+        return;
+    }
+    replay_line(at, read, tally);
+}
+
+// Replays every line, at most 100,000.
+fn replay_all(line: &mut [u8], tally: &mut [u64; 3]) {
+    let mut at: usize = 0;
+    while at < 100000 {
+        let k = read_line(line);
+        if line.len() < k {
+            return;
+        }
+        at += 1;
+        replay_read(at, line, k, tally);
+    }
+    write(b"what follows is not read\n");
 }
 
 fn main() {
-    ground_floor::run();
-    notation::run();
-    solving::run();
-    refusals::run();
-    replay::run();
+    let mut tally = [0u64; 3];
+    let mut line = [0u8; 16384];
+    replay_all(&mut line, &mut tally);
+    io::print_decimal(STDOUT_FILENO, tally[0]);
+    write(b" records as they say, ");
+    io::print_decimal(STDOUT_FILENO, tally[1]);
+    write(b" differ, ");
+    io::print_decimal(STDOUT_FILENO, tally[2]);
+    write(b" lines are no record\n");
 }

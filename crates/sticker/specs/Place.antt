@@ -1,6 +1,6 @@
--- Places of stickers. Document 01 writes a coordinate between -n and n; here n is added to each, so that all are natural numbers:
--- its n is `top n`, its -n is `bot`, its -x is `neg n x`, and its -n+1, -n+3, .., n-1 are `mid 0`, `mid 1`, .., `mid (n - 1)`.
-use Prim.Native.Nat.{ℕ, zero, suc, _+_, _-_, _*_, _/_, _%_}
+-- Places of stickers. The rules write a coordinate between -n and n; here n is added to each, so that all are natural numbers:
+-- their n is `top n`, their -n is `bot`, their -x is `neg n x`, and their -n+1, -n+3, .., n-1 are `mid 0`, `mid 1`, .., `mid (n - 1)`.
+use Prim.Native.Nat.{ℕ, zero, suc, _+_, _-_, _*_, _/_, _%_, _≤_}
 use mathlib.Core.Bool.{Bool, true, false}
 use lib.Dec.{eqb}
 use Rattle.ground.specs.Choice.{pick}
@@ -10,8 +10,6 @@ use Rattle.sticker.specs.declared.Pos.{Pos}
 use Rattle.sticker.specs.declared.Slot.{Slot}
 use Rattle.sticker.specs.declared.Side.{Side}
 use Rattle.sticker.specs.declared.Side.the-variants.{On, Nowhere}
-use Rattle.sticker.specs.declared.Found.{Found}
-use Rattle.sticker.specs.declared.Found.the-variants.{At, NoFace}
 
 abbrev pub top : ℕ → ℕ
 top n = 2 * n
@@ -27,6 +25,12 @@ mid k = 2 * k + 1
 
 abbrev pub at3 : ℕ → ℕ → ℕ → Pos
 at3 x y z = record { x = x; y = y; z = z }
+
+-- every coordinate is between -n and n
+pub record InCube (n : ℕ) (p : Pos) : Type 0 where
+  pub x-in : p .x ≤ top n
+  pub y-in : p .y ≤ top n
+  pub z-in : p .z ≤ top n
 
 -- x=n R, x=-n L, y=n U, y=-n D, z=n F, z=-n B
 abbrev pub side : ℕ → Pos → Side
@@ -114,7 +118,3 @@ place n j = placeOf n (unflat n j)
 
 abbrev pub index : ℕ → Pos → ℕ
 index n p = flat n (slotOf n p)
-
--- the index of a position, or that it lies on no face
-abbrev pub found : ℕ → Pos → Found
-found n p = pick (isOn (side n p)) (At (index n p)) NoFace

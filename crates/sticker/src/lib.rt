@@ -1,8 +1,8 @@
 // Faces, positions, and the order in which stickers are stored: sticker.rs, and the range and order of geometric_cube/cube.rs.
 ghost use mathlib.Core.Path.{_≡_};
 ghost use Prim.Native.Nat.{_+_, _*_, _<_, _≤_};
-ghost use Rattle.sticker.specs.Place.{seat, numOf, nthFace, side, slotOn, place, found};
-ghost use Rattle.sticker.specs.PlaceLaws.{Inside};
+ghost use Rattle.sticker.specs.Place.{seat, numOf, nthFace, side, slotOn, place};
+ghost use Rattle.sticker.specs.Inner.{foundAt, Inside};
 
 // A face of the cube; also the half axis that points to it.
 pub enum Face {
@@ -152,44 +152,42 @@ fn flat_of(n: usize, f: Face, row: usize, col: usize) -> usize
     (k * n + row) * n + col
 }
 
+// The row and the column of a position on a face.
 fn slot_on(n: usize, p: Pos, f: Face) -> Slot
     requires { ⌜ Inside n p ⌝ }
     ensures { λ r. ⌜ r ≡ slotOn n p f ⌝ }
 {
     let t = 2 * n;
-    let x = p.x;
-    let y = p.y;
-    let z = p.z;
     match f {
         Face::U => Slot {
             face: Face::U,
-            row: z / 2,
-            col: x / 2,
+            row: p.z / 2,
+            col: p.x / 2,
         },
         Face::R => Slot {
             face: Face::R,
-            row: (t - y) / 2,
-            col: (t - z) / 2,
+            row: (t - p.y) / 2,
+            col: (t - p.z) / 2,
         },
         Face::F => Slot {
             face: Face::F,
-            row: (t - y) / 2,
-            col: x / 2,
+            row: (t - p.y) / 2,
+            col: p.x / 2,
         },
         Face::D => Slot {
             face: Face::D,
-            row: (t - z) / 2,
-            col: x / 2,
+            row: (t - p.z) / 2,
+            col: p.x / 2,
         },
         Face::L => Slot {
             face: Face::L,
-            row: (t - y) / 2,
-            col: z / 2,
+            row: (t - p.y) / 2,
+            col: p.z / 2,
         },
         Face::B => Slot {
             face: Face::B,
-            row: (t - y) / 2,
-            col: (t - x) / 2,
+            row: (t - p.y) / 2,
+            col: (t - p.x) / 2,
         },
     }
 }
@@ -197,7 +195,7 @@ fn slot_on(n: usize, p: Pos, f: Face) -> Slot
 // The index of a position, or that it lies on no face.
 pub fn index_of(n: usize, p: Pos) -> Found
     requires { ⌜ Inside n p ⌝ }
-    ensures { λ r. ⌜ r ≡ found n p ⌝ }
+    ensures { λ r. ⌜ r ≡ foundAt n p ⌝ }
 {
     let Side::On(f) = compute_face(n, p) else {
         return Found::NoFace;

@@ -1,17 +1,22 @@
--- A table's entries as bytes: one that is read, and one that is written.
+-- Entries by their places in a slice.
 use Prim.Native.Nat.{ℕ, _+_, _*_, _<_}
 use mathlib.Core.Path.{_≡_}
-use mathlib.Core.List.{List, _++_}
-use lib.ListN.{take, drop}
+use mathlib.Core.List.{List}
+use lib.ListN.{take, drop, getD}
+use Rattle.table.specs.declared.Order.the-variants.{Less}
+use Rattle.table.specs.Order.{orderOf}
 
--- the bytes of entry i: its key and its number
-abbrev pub entryAt : ℕ → List ℕ → ℕ → List ℕ
-entryAt m t i = take (m + 1) (drop (i * (m + 1)) t)
+-- the key and the number of entry i
+abbrev pub entryKey : ℕ → List ℕ → ℕ → List ℕ
+entryKey m table i = take m (drop (i * (m + 1)) table)
 
--- the slice with other bytes for entry i
-abbrev pub written : ℕ → ℕ → List ℕ → List ℕ → List ℕ
-written m i e t = take (i * (m + 1)) t ++ (e ++ drop (i * (m + 1) + (m + 1)) t)
+abbrev pub entryNumber : ℕ → List ℕ → ℕ → ℕ
+entryNumber m table i = getD table (i * (m + 1) + m) 0
 
--- n keys, no two the same
-abbrev pub Distinct : (ℕ → List ℕ) → ℕ → Type 0
-Distinct key n = (i j : ℕ) → i < j → j < n → key i ≡ key j → ⊥
+-- s stands among n keys
+abbrev pub Present : (ℕ → List ℕ) → ℕ → List ℕ → Type 0
+Present key n s = (i : ℕ) × (i < n) × (key i ≡ s)
+
+-- each of n keys is less than every later one
+unfoldable pub Rising : (ℕ → List ℕ) → ℕ → Type 0
+Rising key n = (i j : ℕ) → i < j → j < n → orderOf (key i) (key j) ≡ Less

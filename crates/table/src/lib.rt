@@ -3,9 +3,10 @@
 ghost use mathlib.Core.Path.{_≡_};
 ghost use Prim.Native.Nat.{_<_};
 ghost use lib.ListN.{length};
-ghost use Rattle.table.specs.Order.{orderOf};
-ghost use Rattle.table.specs.Table.{keyAt, numberAt, numberOf, wellFormed};
-ghost use Rattle.table.specs.Asked.{Held, Lookup};
+ghost use Rattle.table.specs.Order.{orderOf, isLess};
+ghost use Rattle.table.specs.Entries.{entryKey, entryNumber};
+ghost use Rattle.table.specs.Table.{stateNumber, wellFormed};
+ghost use Rattle.table.specs.Inner.{EntryThere, Lookup};
 
 // How two keys stand, byte by byte from the front.
 pub enum Order {
@@ -31,10 +32,21 @@ pub fn compare(a: &[u8], b: &[u8]) -> Order
     Order::Same
 }
 
+// Whether the first of two keys is less than the second.
+fn is_less(order: Order) -> bool
+    ensures { λ r. ⌜ r ≡ isLess order ⌝ }
+{
+    match order {
+        Order::Less => true,
+        Order::Same => false,
+        Order::More => false,
+    }
+}
+
 // The key of entry i.
 pub fn key_at(table: &[u8], m: usize, i: usize) -> &[u8]
-    requires { ⌜ Held m (now table) i ⌝ }
-    ensures { λ r. ⌜ now r ≡ keyAt m (now (table .entry)) i ⌝ }
+    requires { ⌜ EntryThere m (now table) i ⌝ }
+    ensures { λ r. ⌜ now r ≡ entryKey m (now (table .entry)) i ⌝ }
 {
     let from = i * (m + 1);
     let to = from + m;
@@ -43,8 +55,8 @@ pub fn key_at(table: &[u8], m: usize, i: usize) -> &[u8]
 
 // The number of entry i.
 pub fn number_at(table: &[u8], m: usize, i: usize) -> u8
-    requires { ⌜ Held m (now table) i ⌝ }
-    ensures { λ r. ⌜ r ≡ numberAt m (now (table .entry)) i ⌝ }
+    requires { ⌜ EntryThere m (now table) i ⌝ }
+    ensures { λ r. ⌜ r ≡ entryNumber m (now (table .entry)) i ⌝ }
 {
     let at = i * (m + 1) + m;
     table[at]
@@ -53,7 +65,7 @@ pub fn number_at(table: &[u8], m: usize, i: usize) -> u8
 // The number of the entry with that key, walking from the front, or depth + 1 where there is none.
 pub fn number(table: &[u8], m: usize, depth: usize, key: &[u8]) -> usize
     requires { ⌜ Lookup m (now table) depth (now key) ⌝ }
-    ensures { λ r. ⌜ r ≡ numberOf m (now (table .entry)) depth (now (key .entry)) ⌝ }
+    ensures { λ r. ⌜ r ≡ stateNumber m (now (table .entry)) depth (now (key .entry)) ⌝ }
 {
     let count = table.len() / (m + 1);
     let mut i = 0;
@@ -84,7 +96,7 @@ pub fn is_well_formed(table: &[u8], m: usize) -> bool
     let mut i = 0;
     while i < last {
         let order = compare(key_at(table, m, i), key_at(table, m, i + 1));
-        if let Order::Less = order {
+        if is_less(order) {
             i += 1;
         } else {
             return false;

@@ -1,25 +1,21 @@
--- Document 01's cases for every station that are to be proved, together, as a single statement over the definitions.
-use mathlib.Core.Path.{_≡_, refl}
+-- The rules' cases for every station that are to be proved, together, as a single statement over the definitions.
+use mathlib.Core.Path.{_≡_}
 use mathlib.Core.List.{[], _∷_}
-use Rattle.ground.specs.Choice.{position, any}
-use Rattle.ground.specs.Fill.{tabulate}
 use Rattle.generic_cube.specs.declared.Answer.{Answer}
 use Rattle.generic_cube.specs.declared.Answer.the-variants.{Value}
-use Rattle.generic_cube.specs.Numbers.{sized, answer}
-use Rattle.generic_cube.specs.Code.{codeOf, outside}
+use Rattle.generic_cube.specs.Answers.{answer}
+use Rattle.generic_cube.specs.Code.{move, codeOf}
 use Rattle.generic_cube.specs.StickerIndex.{stickerRefusal, stickerIndex}
-use Rattle.geometric_moves.specs.Turn.{sameFace, whither, inverseRot, turnOf, quarterOf, kindFace, widthOf, layer, target, source, moved, run}
+use Rattle.geometric_moves.specs.Turn.{run}
 use Rattle.scramble_parser.specs.declared.Parsed.the-variants.{Moves, RefusedAt}
-use Rattle.scramble_parser.specs.Token.{isSpace, letterOf, isFace, plainKind, markOf, digitOf, isDigit, digitsOf, numberOf, plainOf, wideOf, startsWide, readToken}
-use Rattle.scramble_parser.specs.Words.{words}
-use Rattle.scramble_parser.specs.Parse.{reading, parseAnswer}
-use Rattle.scramble_parser.specs.Lists.{push, simplify}
+use Rattle.scramble_parser.specs.Parse.{parseAnswer}
+use Rattle.scramble_parser.specs.Lists.{simplify}
 
 pub record Cases : Type 0 where
   -- codes R2 14, Uw 153, 10Dw 685
-  pub r2 : codeOf (record { kind = 3; width = 0; turn = 2 }) ≡ 14
-  pub uw : codeOf (record { kind = 6; width = 2; turn = 1 }) ≡ 153
-  pub dw10 : codeOf (record { kind = 11; width = 10; turn = 1 }) ≡ 685
+  pub r2 : codeOf (move 3 0 2) ≡ 14
+  pub uw : codeOf (move 6 2 1) ≡ 153
+  pub dw10 : codeOf (move 11 10 1) ≡ 685
   -- size 1, `U` turns URFDLB into UBRDFL
   pub size-1 : run 1 (1 ∷ []) (85 ∷ 82 ∷ 70 ∷ 68 ∷ 76 ∷ 66 ∷ []) ≡ 85 ∷ 66 ∷ 82 ∷ 68 ∷ 70 ∷ 76 ∷ []
   -- sticker index size 3, F, 1 is 18; index 10 is refused (10)
@@ -35,22 +31,3 @@ pub record Cases : Type 0 where
   pub zero-first : parseAnswer 4 (48 ∷ 50 ∷ 85 ∷ 119 ∷ []) 1 ≡ RefusedAt 4 0
   pub uw-on-2 : parseAnswer 2 (85 ∷ 119 ∷ []) 1 ≡ RefusedAt 5 0
   pub empty : parseAnswer 3 [] 0 ≡ Moves 0
-
-pub cases : Cases
-unfolding sized position any tabulate stickerRefusal stickerIndex sameFace whither inverseRot turnOf quarterOf kindFace widthOf layer target source moved run outside isSpace letterOf isFace plainKind markOf digitOf isDigit digitsOf numberOf plainOf wideOf startsWide readToken words reading parseAnswer push simplify
-cases = record {
-  r2 = refl;
-  uw = refl;
-  dw10 = refl;
-  size-1 = refl;
-  f-1 = refl;
-  f-10 = refl;
-  u-u = refl;
-  r-u-u′-r = refl;
-  u-d-u′ = refl;
-  uw-2-3 = refl;
-  width-4 = refl;
-  zero-first = refl;
-  uw-on-2 = refl;
-  empty = refl;
-}

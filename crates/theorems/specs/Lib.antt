@@ -1,11 +1,7 @@
-pub mod Signed
-pub mod PieceMap
-pub mod Rotations
-pub mod Kept
-pub mod Simplified
-pub mod RoundTrip
-pub mod Spelled
+pub mod Geometry
+pub mod Notation
 pub mod Effects
 pub mod Cases
-pub mod Solving
+pub mod Searching
 pub mod OneAnswer
+pub mod Boundary

@@ -1,5 +1,5 @@
 use mathlib.Core.Path.{ap, sym, _∙_}
-use Rattle.generic_cube.specs.Numbers.{doneNo}
+use Rattle.generic_cube.specs.Answers.{doneNo}
 use Rattle.cubesim.specs.Pack.{pack}
 use borrow.Author.Needs.{needs}
 use Rattle.cubesim.proofs.pack_done.Statement.{statement}

@@ -1,19 +1,28 @@
-use mathlib.Core.Path.{sym, _∙_}
+use mathlib.Core.Path.{_≡_, refl, sym, _∙_}
+use mathlib.Core.Bool.{true}
+use mathlib.Core.List.{[], _∷_}
 use borrow.Author.Tests.{eq-eqb, ne-eqb}
-use Rattle.generic_cube.specs.CodeLaws.{sized-bounds}
-use Rattle.sticker.specs.PlaceLaws.{room}
-use Rattle.geometric_moves.specs.TurnLaws.{Sized}
+use Rattle.ground.specs.Refusals.{_when_, lowest}
+use Rattle.ground.proofs.RefusalLaws.{passed, lowest-front, lowest-behind}
+use Rattle.generic_cube.specs.Sizes.{sized}
+use Rattle.generic_cube.specs.Code.{listRows, listRefusal}
+use Rattle.geometric_moves.proofs.TurnLaws.{size-in-range}
+use Rattle.sticker.proofs.PlaceLaws.{room}
+use Rattle.geometric_moves.specs.Inner.{Sized}
+use Rattle.geometric_moves.specs.Turn.{listOff}
 use Rattle.facelet_cube.specs.Apply.{applyRefusal}
+use Rattle.facelet_cube.proofs.ApplyLaws.{apply-list}
 use native.Mathlib.Omega.{arith}
 use borrow.Author.Needs.{needs}
 use Rattle.facelet_cube.proofs.apply_refusal.Statement.{statement}
 use Rattle.facelet_cube.proofs.apply_refusal.Tie as tie
 
 -- the size is in range
+sized-is : (c : tie.Then1) → sized (c .before .before .before .args .n) ≡ true
+sized-is c = sym (c .before .is-size .ensures) ∙ c .if1 .taken
+
 size : (c : tie.Then1) → Sized (c .before .before .before .args .n)
-size c =
-    let b = sized-bounds (c .before .before .before .args .n) (sym (c .before .is-size .ensures) ∙ c .if1 .taken) in
-    record { some = b .0; size = b .1 }
+size c = size-in-range (sized-is c)
 
 is-size-requires : tie.Need-is-size-requires
 is-size-requires c κs = search needs
@@ -25,11 +34,11 @@ mul-count-2 : tie.Need-mul-count-2
 mul-count-2 c = omega (arith, room (c .before .before .before .args .n) (size c .size))
 
 returns : tie.Need-returns
-unfolding applyRefusal
+unfolding applyRefusal lowest
 returns c = simp (sym (c .before .before .is-size .ensures) ∙ c .before .if1 .taken, ne-eqb _ _ (c .if2 .taken))
 
 returns-2 : tie.Need-returns-2
-unfolding applyRefusal
+unfolding applyRefusal lowest
 returns-2 c =
     simp (
       sym (c .before .before .before .is-size .ensures) ∙ c .before .before .if1 .taken,
@@ -41,45 +50,38 @@ list-refusal-requires : tie.Need-list-refusal-requires
 list-refusal-requires c κs = search needs
 
 returns-3 : tie.Need-returns-3
-unfolding applyRefusal
+unfolding listRefusal
 returns-3 c =
-    simp (
-      sym (c .before .before .before .before .before .is-size .ensures) ∙ c .before .before .before .before .if1 .taken,
-      eq-eqb _ _ (c .before .before .before .if2 .left),
-      eq-eqb _ _ (c .before .before .if3 .left),
-      ← (c .before .list-refusal .ensures),
-      ne-eqb _ _ (c .if4 .taken),
+    let a = c .before .before .before .before .before .before .before .args in
+    let e = c .before .list-refusal .ensures in
+    sym (
+    apply-list (a .n) (a .cube) (a .work) (a .moves .now) (sized-is (c .before .before .before .before)) (c .before .before .before .if2 .left) (c .before .before .if3 .left)
+    ∙ lowest-front (listRows (a .n) (a .moves .now)) _ (λ z. c .if4 .taken (e ∙ z)) ∙ sym e
     )
 
 list-off-requires : tie.Need-list-off-requires
 list-off-requires c κs = (size (c .before .before .before .before), sym (c .before .list-refusal .ensures) ∙ c .if4 .left)
 
+-- the list is in order: row 11 is left
+behind : (c : tie.Else4) → let a = c .before .before .before .before .before .before .before .args in
+    applyRefusal (a .n) (a .cube) (a .work) (a .moves .now) ≡ lowest (11 when listOff (a .n) (a .moves .now) ∷ [])
+unfolding listRefusal
+behind c =
+    let a = c .before .before .before .before .before .before .before .args in
+    let rows = listRows (a .n) (a .moves .now) in
+    apply-list (a .n) (a .cube) (a .work) (a .moves .now) (sized-is (c .before .before .before .before)) (c .before .before .before .if2 .left) (c .before .before .if3 .left)
+    ∙ lowest-behind rows _ (passed rows refl (sym (c .before .list-refusal .ensures) ∙ c .if4 .left))
+
 returns-4 : tie.Need-returns-4
-unfolding applyRefusal
-returns-4 c =
-    simp (
-      sym (c .before .before .before .before .before .before .before .is-size .ensures) ∙ c .before .before .before .before .before .before .if1 .taken,
-      eq-eqb _ _ (c .before .before .before .before .before .if2 .left),
-      eq-eqb _ _ (c .before .before .before .before .if3 .left),
-      ← (c .before .before .before .list-refusal .ensures),
-      eq-eqb _ _ (c .before .before .if4 .left),
-      sym (c .before .list-off .ensures) ∙ c .if5 .taken,
-    )
+unfolding lowest
+returns-4 c = sym (behind (c .before .before) ∙ rw (sym (c .before .list-off .ensures) ∙ c .if5 .taken))
 
 returns-5 : tie.Need-returns-5
-unfolding applyRefusal
-returns-5 c =
-    simp (
-      sym (c .before .before .before .before .before .before .before .is-size .ensures) ∙ c .before .before .before .before .before .before .if1 .taken,
-      eq-eqb _ _ (c .before .before .before .before .before .if2 .left),
-      eq-eqb _ _ (c .before .before .before .before .if3 .left),
-      ← (c .before .before .before .list-refusal .ensures),
-      eq-eqb _ _ (c .before .before .if4 .left),
-      sym (c .before .list-off .ensures) ∙ c .if5 .left,
-    )
+unfolding lowest
+returns-5 c = sym (behind (c .before .before) ∙ rw (sym (c .before .list-off .ensures) ∙ c .if5 .left))
 
 returns-6 : tie.Need-returns-6
-unfolding applyRefusal
+unfolding applyRefusal lowest
 returns-6 c = simp (sym (c .before .is-size .ensures) ∙ c .if1 .left)
 
 pub apply-refusal-spec : {M : Type 1} → statement M

@@ -1,5 +1,5 @@
 use borrow.Author.Tests.{lt-ltb, le-ltb}
-use Rattle.generic_cube.specs.Numbers.{beyond}
+use Rattle.generic_cube.specs.Sizes.{beyond}
 use Rattle.generic_cube.proofs.is_beyond.Statement.{statement}
 use Rattle.generic_cube.proofs.is_beyond.Tie as tie
 

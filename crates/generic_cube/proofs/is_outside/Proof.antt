@@ -1,15 +1,16 @@
-use borrow.Author.Tests.{lt-ltb, le-ltb}
+use mathlib.Core.Path.{ap}
+use mathlib.Core.Bool.{not}
 use Rattle.generic_cube.specs.Code.{outside}
+use borrow.Author.Needs.{needs}
 use Rattle.generic_cube.proofs.is_outside.Statement.{statement}
 use Rattle.generic_cube.proofs.is_outside.Tie as tie
 
+is-between-requires : tie.Need-is-between-requires
+is-between-requires c κs = search needs
+
 returns : tie.Need-returns
 unfolding outside
-returns c = simp (lt-ltb _ _ (c .if1 .taken))
-
-returns-2 : tie.Need-returns-2
-unfolding outside
-returns-2 c = simp (le-ltb _ _ (c .if1 .left))
+returns c = ap not (c .is-between .ensures)
 
 pub is-outside-spec : {M : Type 1} → statement M
-is-outside-spec = tie.close (tie.spec returns returns-2)
+is-outside-spec = tie.close (tie.spec is-between-requires returns)

@@ -1,23 +1,23 @@
 use mathlib.Core.Path.{sym, _∙_}
 use borrow.Author.Tests.{eq-eqb, ne-eqb}
-use Rattle.generic_cube.specs.Code.{badCode, readCode}
+use Rattle.generic_cube.specs.Code.{moveOf, badCode, readCode}
 use borrow.Author.Needs.{needs}
 use Rattle.generic_cube.proofs.read_code.Statement.{statement}
 use Rattle.generic_cube.proofs.read_code.Tie as tie
 
 returns : tie.Need-returns
-unfolding readCode badCode
+unfolding readCode badCode moveOf
 returns c = simp (eq-eqb _ _ (c .if1 .taken))
 
 returns-2 : tie.Need-returns-2
-unfolding readCode badCode
+unfolding readCode badCode moveOf
 returns-2 c = simp (ne-eqb _ _ (c .before .if1 .left), eq-eqb _ _ (c .if2 .taken))
 
 is-wide-requires : tie.Need-is-wide-requires
 is-wide-requires c κs = search needs
 
 returns-3 : tie.Need-returns-3
-unfolding readCode badCode
+unfolding readCode badCode moveOf
 returns-3 c =
     simp (
       ne-eqb _ _ (c .before .before .before .if1 .left),
@@ -26,7 +26,7 @@ returns-3 c =
     )
 
 returns-4 : tie.Need-returns-4
-unfolding readCode badCode
+unfolding readCode badCode moveOf
 returns-4 c =
     simp (
       ne-eqb _ _ (c .before .before .before .before .if1 .left),
@@ -36,7 +36,7 @@ returns-4 c =
     )
 
 returns-5 : tie.Need-returns-5
-unfolding readCode badCode
+unfolding readCode badCode moveOf
 returns-5 c =
     simp (
       ne-eqb _ _ (c .before .before .before .before .if1 .left),

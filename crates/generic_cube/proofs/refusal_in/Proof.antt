@@ -5,7 +5,7 @@ use mathlib.Core.Logic.{⊎-elim}
 use lib.ListN.{length, getD, drop}
 use Rattle.ground.specs.Choice.{pick}
 use Rattle.generic_cube.specs.Code.{badWidthIn}
-use Rattle.generic_cube.specs.CodeLaws.{walked, walk-list, walk-refused, walk-next, walk-end, taken, refused}
+use Rattle.generic_cube.proofs.CodeLaws.{walked, walk-list, walk-refused, walk-next, walk-end, taken, refused}
 use native.Mathlib.Omega.{arith}
 use borrow.Author.Needs.{needs}
 use Rattle.generic_cube.proofs.refusal_in.Statement.{statement}

@@ -3,11 +3,13 @@ use Prim.Native.Nat.{_-_, _≤_}
 use mathlib.Core.Path.{_≡_, refl, sym, ap, _∙_}
 use mathlib.Core.Bool.{false, true≢false}
 use lib.ListN.{length, getD, drop}
-use Rattle.ground.specs.Choice.{any, any-next, any-end}
+use Rattle.ground.specs.Choice.{any}
+use Rattle.ground.proofs.ChoiceLaws.{any-next, any-end}
 use Rattle.generic_cube.specs.Code.{moveOf}
-use Rattle.generic_cube.specs.CodeLaws.{Fair, list-taken, list-reads}
+use Rattle.generic_cube.specs.Inner.{Fair}
+use Rattle.generic_cube.proofs.CodeLaws.{list-taken, list-reads}
 use Rattle.geometric_moves.specs.Turn.{offFace, listOff}
-use Rattle.geometric_moves.specs.TurnLaws.{move-on}
+use Rattle.geometric_moves.proofs.TurnLaws.{move-on}
 use native.Mathlib.Omega.{arith}
 use borrow.Author.Needs.{needs}
 use Rattle.geometric_moves.proofs.list_off.Statement.{statement}

@@ -2,7 +2,7 @@ use Prim.Native.Nat.{ℕ}
 use mathlib.Core.Path.{_≡_, ap, sym, _∙_}
 use Rattle.geometric_moves.specs.declared.Rotation.{Rotation}
 use Rattle.geometric_moves.specs.Turn.{thenRot, turnOf}
-use Rattle.geometric_moves.specs.RotationLaws.{turn-one, turn-two}
+use Rattle.geometric_moves.proofs.RotationLaws.{turn-one, turn-two}
 use native.Mathlib.Omega.{arith}
 use borrow.Author.Needs.{needs}
 use Rattle.geometric_moves.proofs.turn_of.Statement.{statement}

@@ -7,12 +7,11 @@ use lib.ListN.{length}
 use lib.Seq.{length-take-le}
 use borrow.Author.Needs.{needs}
 use borrow.Author.Tests.{not-true, not-false}
-use Rattle.generic_cube.specs.Numbers.{stickers}
-use Rattle.generic_cube.specs.CodeLaws.{small-cube, list-code, list-fair}
-use Rattle.geometric_moves.specs.MovedLaws.{length-moved}
-use Rattle.ida_star.specs.IdaStar.{task}
-use Rattle.ida_star.specs.VisitLaws.{Trying, visit-goal, visit-above, try-start, try-skip, try-end, level-one, level-two}
-use Rattle.ida_star.specs.VisitLaws.{part-room, try-next, try-found}
+use Rattle.generic_cube.specs.Sizes.{stickers}
+use Rattle.generic_cube.proofs.CodeLaws.{small-cube, list-code, list-fair}
+use Rattle.geometric_moves.proofs.MovedLaws.{length-moved}
+use Rattle.search_theory.specs.CubeSearch.{cubeTask}
+use Rattle.ida_star.proofs.VisitLaws.{Trying, visit-goal, visit-above, try-start, try-skip, try-end, level-one, level-two, below-room, try-next, try-found}
 use Prim.Native.Nat.{ℕ, _<_}
 use borrow.Fn.Kinds.{In}
 use borrow.Fn.PlainCycle.{Measures, is, falls, and}
@@ -20,7 +19,7 @@ use Rattle.ida_star.proofs.dfs.Reads as dfs
 use Rattle.ida_star.proofs.dfs.Kinds as dfs-kinds
 use Rattle.ida_star.proofs.+dfs.Lts-dfs as dfs-lts
 use Rattle.ida_star.proofs.advance.Reads as advance-reads
-use Rattle.ida_star.proofs.is_barred.Reads as is-barred-reads
+use Rattle.ida_star.proofs.path_bars.Reads as path-bars-reads
 use Rattle.ida_star.proofs.pushed.Reads as pushed-reads
 use Rattle.table.proofs.number.Reads as number-reads
 use Rattle.ida_star.proofs.+dfs.{statement}
@@ -40,8 +39,8 @@ abbrev calls : ℕ → dfs-lts.Claims
 calls t = (
   number-reads.Asked,
   number-reads.Learnt,
-  is-barred-reads.Asked,
-  is-barred-reads.Learnt,
+  path-bars-reads.Asked,
+  path-bars-reads.Learnt,
   advance-reads.Asked,
   advance-reads.Learnt,
   pushed-reads.Asked,
@@ -51,7 +50,7 @@ calls t = (
 )
 
 abbrev dfs-Inv-loop : dfs-lts.InvT-loop
-dfs-Inv-loop n table depth moves work₀ path left s number i₀ work i = Trying (task n table depth moves) (stickers n) left path work₀ work i
+dfs-Inv-loop n table depth moves work₀ path left s number i₀ work i = Trying (cubeTask n table depth moves) (stickers n) left path work₀ work i
 
 abbrev dfs-μ-loop : dfs-lts.MeasureT-loop
 dfs-μ-loop n table depth moves work₀ path left s number i₀ work i = length moves - i
@@ -119,8 +118,8 @@ dfs-mul-code t c = search needs
 dfs-shared-slice-read-code : (t : ℕ) → dfs-lts.Need-shared-slice-read-code (calls t) (dfs-at t) dfs.Post dfs-Inv-loop dfs-μ-loop
 dfs-shared-slice-read-code t c = search needs
 
-dfs-is-barred-requires : (t : ℕ) → dfs-lts.Need-is-barred-requires (calls t) (dfs-at t) dfs.Post dfs-Inv-loop dfs-μ-loop
-dfs-is-barred-requires t c κs =
+dfs-path-bars-requires : (t : ℕ) → dfs-lts.Need-path-bars-requires (calls t) (dfs-at t) dfs.Post dfs-Inv-loop dfs-μ-loop
+dfs-path-bars-requires t c κs =
     let r = entry t (c .before) .pre .1 .path in
     record { slots = r .slots; most = omega (arith, r .most) }
 
@@ -164,7 +163,7 @@ dfs-dfs-requires t c κs =
       omega (arith, a .pre .0, some-left t k),
       record {
         given = r .given;
-        room = part-room (λ x y. length-moved _ _ _) (some-left t k) (r .room) (k .before .loop .inv) (k .loop-test .taken) (v .advance .ensures);
+        room = below-room (λ x y. length-moved _ _ _) (some-left t k) (r .room) (k .before .loop .inv) (k .loop-test .taken) (v .advance .ensures);
         path = record { slots = c .pushed .ensures .slots; most = omega (arith, c .pushed .ensures .count, r .path .most, some-left t k) };
       },
     )
@@ -179,7 +178,7 @@ dfs-returns-3 t c =
     let b = v .before .before in
     let k = b .before .before .before in
     try-found (λ x y. length-moved _ _ _) (some-left t k) (entry t k .pre .1 .room) (k .before .loop .inv) (k .loop-test .taken) (v .advance .ensures)
-    (sym (b .before .is-barred .ensures) ∙ not-true _ (b .if3 .taken)) (d .before .pushed .ensures) (d .dfs .ensures) (d .dfs .kept .1 .1 .1 .1 .0)
+    (sym (b .before .path-bars .ensures) ∙ not-true _ (b .if3 .taken)) (d .before .pushed .ensures) (d .dfs .ensures) (d .dfs .kept .1 .1 .1 .1 .0)
     refl (c .if4 .taken)
 
 dfs-add-i : (t : ℕ) → dfs-lts.Need-add-i (calls t) (dfs-at t) dfs.Post dfs-Inv-loop dfs-μ-loop
@@ -192,7 +191,7 @@ dfs-loop-again : (t : ℕ) → dfs-lts.Need-loop-again (calls t) (dfs-at t) dfs.
 dfs-loop-again t c =
     let k = c .before .before .before in
     let l = k .before .loop in
-    let b = c .before .is-barred .ensures in
+    let b = c .before .path-bars .ensures in
     ⊎-elim
     (λ w. try-next (λ x y. length-moved _ _ _) (some-left t k) (entry t k .pre .1 .room) (l .inv) (k .loop-test .taken) (w .2 .ensures)
     (sym b ∙ not-true _ (w .0 .taken)) (w .6 .ensures) (w .7 .ensures) (w .7 .kept .1 .1 .1 .1 .0) (w .11) (w .10 .left))
@@ -224,7 +223,7 @@ pub +dfs-spec : {M : Type 1} → statement M
     (dfs-loop-holds t)
     (dfs-mul-code t)
     (dfs-shared-slice-read-code t)
-    (dfs-is-barred-requires t)
+    (dfs-path-bars-requires t)
     (dfs-advance-requires t)
     (dfs-sub-dfs t)
     (dfs-part-dfs-start t)

@@ -1,6 +1,6 @@
 -- `advance`: a cube of size 7 has 294 bytes, which are lent for the copy.
 use lib.ListN.{length-take}
-use Rattle.generic_cube.specs.CodeLaws.{small-cube}
+use Rattle.generic_cube.proofs.CodeLaws.{small-cube}
 use native.Mathlib.Omega.{arith}
 use borrow.Author.Needs.{needs}
 use Rattle.ida_star.proofs.advance.Statement.{statement}

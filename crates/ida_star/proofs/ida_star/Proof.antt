@@ -2,9 +2,10 @@
 use mathlib.Core.Path.{_≡_, sym, _∙_}
 use lib.ListN.{length}
 use lib.Seq.{length-take-le}
-use Rattle.generic_cube.specs.CodeLaws.{small-cube}
+use Rattle.generic_cube.proofs.CodeLaws.{small-cube}
+use Rattle.search_theory.specs.CubeSearch.{CubeSearch}
 use Rattle.ida_star.specs.IdaStar.{searchRefusal}
-use Rattle.ida_star.specs.IdaStarLaws.{levels-small, Taken, taken, searched-refused, part-fits, searched}
+use Rattle.ida_star.proofs.IdaStarLaws.{levels-small, SearchTaken, search-taken, searched-refused, part-fits, searched}
 use native.Mathlib.Omega.{arith}
 use borrow.Author.Needs.{needs}
 use Rattle.ida_star.proofs.ida_star.Statement.{statement}
@@ -14,15 +15,16 @@ use Rattle.ida_star.proofs.ida_star.Tie as tie
 abbrev entry : tie.Else1 → tie.Start
 entry c = c .before .before .before .before .before .before .before
 
-refused-none : (c : tie.Else1)
-    → searchRefusal (entry c .args .n) (entry c .args .cube .now) (entry c .args .table .now) (entry c .args .depth) (entry c .args .moves .now)
-    (entry c .args .limit) (length (entry c .args .work .now)) (length (entry c .args .out .now)) ≡ 0
+-- the search that is asked for
+abbrev asked : tie.Start → CubeSearch
+asked c =
+    record { n = c .args .n; cube = c .args .cube .now; table = c .args .table .now; depth = c .args .depth; candidates = c .args .moves .now; limit = c .args .limit }
+
+refused-none : (c : tie.Else1) → searchRefusal (asked (entry c)) (length (entry c .args .work .now)) (length (entry c .args .out .now)) ≡ 0
 refused-none c = sym (c .before .search-refusal .ensures) ∙ c .if1 .left
 
-good : (c : tie.Else1)
-    → Taken (entry c .args .n) (entry c .args .cube .now) (entry c .args .table .now) (entry c .args .depth) (entry c .args .moves .now)
-    (entry c .args .limit) (length (entry c .args .work .now)) (length (entry c .args .out .now))
-good c = taken _ _ _ _ _ _ _ _ (refused-none c)
+good : (c : tie.Else1) → SearchTaken (asked (entry c)) (length (entry c .args .work .now)) (length (entry c .args .out .now))
+good c = search-taken (asked (entry c)) _ _ (refused-none c)
 
 search-refusal-requires : tie.Need-search-refusal-requires
 search-refusal-requires c κs = search needs

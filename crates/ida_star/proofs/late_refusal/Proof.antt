@@ -3,11 +3,12 @@ use Prim.Native.Nat.{_≤_}
 use mathlib.Core.Path.{_≡_, sym, ap, _∙_}
 use mathlib.Core.Bool.{false, not}
 use borrow.Author.Tests.{lt-ltb, le-ltb}
-use Rattle.generic_cube.specs.Numbers.{stickers}
-use Rattle.generic_cube.specs.CodeLaws.{small-cube}
+use Rattle.generic_cube.specs.Sizes.{stickers}
+use Rattle.generic_cube.proofs.CodeLaws.{small-cube}
+use Rattle.ground.specs.Refusals.{lowest}
 use Rattle.table.specs.Table.{wellFormed}
-use Rattle.ida_star.specs.IdaStar.{lateRefusal}
-use Rattle.ida_star.specs.IdaStarLaws.{levels-small}
+use Rattle.ida_star.specs.Inner.{lateRefusal}
+use Rattle.ida_star.proofs.IdaStarLaws.{levels-small}
 use native.Mathlib.Omega.{arith}
 use borrow.Author.Needs.{needs}
 use Rattle.ida_star.proofs.late_refusal.Statement.{statement}
@@ -29,7 +30,7 @@ is-well-formed-requires : tie.Need-is-well-formed-requires
 is-well-formed-requires c κs = omega (arith, small (c .before .before))
 
 returns : tie.Need-returns
-unfolding lateRefusal
+unfolding lateRefusal lowest
 returns c = simp (ap not (sym (c .before .is-well-formed .ensures)) ∙ c .if1 .taken)
 
 add-if2 : tie.Need-add-if2
@@ -41,18 +42,18 @@ mul-if2 c =
     omega (arith, levels-small (a .args .n) (a .args .limit) (a .pre .size) (a .pre .low))
 
 returns-2 : tie.Need-returns-2
-unfolding lateRefusal
+unfolding lateRefusal lowest
 returns-2 c = simp (formed (c .before), lt-ltb _ _ (c .if2 .taken))
 
 list-off-requires : tie.Need-list-off-requires
 list-off-requires c κs = search needs
 
 returns-3 : tie.Need-returns-3
-unfolding lateRefusal
+unfolding lateRefusal lowest
 returns-3 c = simp (formed (c .before .before .before), le-ltb _ _ (c .before .before .if2 .left), sym (c .before .list-off .ensures) ∙ c .if3 .taken)
 
 returns-4 : tie.Need-returns-4
-unfolding lateRefusal
+unfolding lateRefusal lowest
 returns-4 c = simp (formed (c .before .before .before), le-ltb _ _ (c .before .before .if2 .left), sym (c .before .list-off .ensures) ∙ c .if3 .left)
 
 pub late-refusal-spec : {M : Type 1} → statement M

@@ -2,9 +2,9 @@
 use mathlib.Core.Path.{refl, sym, ap, _∙_}
 use lib.Seq.{length-take-le, take-at}
 use lib.ListN.{length, drop}
-use Rattle.generic_cube.specs.Numbers.{stickers}
-use Rattle.ida_star.specs.VisitLaws.{level-one}
-use Rattle.ida_star.specs.RiseLaws.{pass-told}
+use Rattle.generic_cube.specs.Sizes.{stickers}
+use Rattle.ida_star.proofs.VisitLaws.{level-one}
+use Rattle.ida_star.proofs.PassesLaws.{pass-answer}
 use borrow.Author.Needs.{needs}
 use Rattle.ida_star.proofs.pass.Statement.{statement}
 use Rattle.ida_star.proofs.pass.Tie as tie
@@ -38,7 +38,7 @@ returns : tie.Need-returns
 returns c =
     let a = c .before .before .before .before .before .before .before .before .before .before .before .before in
     let k = c .before .before .before .before .before .before .copy in
-    pass-told (c .before .before .dfs .ensures) refl
+    pass-answer (c .before .before .dfs .ensures) refl
     (take-at (k .last .1 .0) (drop (stickers (a .args .n)) (a .args .work .now)) (stickers (a .args .n)) (ap length (k .ensures) ∙ a .pre .whole) ∙ k .ensures)
 
 pub pass-spec : {M : Type 1} → statement M

@@ -2,20 +2,20 @@
 use Prim.Native.Nat.{_+_, _-_}
 use lib.ListN.{length}
 use mathlib.Core.Path.{ap, _∙_}
-use Rattle.ida_star.specs.IdaStar.{task}
-use Rattle.ida_star.specs.RiseLaws.{Rising, rise-start, rise-next, rise-end, rise-room, rise-hit, pass-starts}
+use Rattle.search_theory.specs.CubeSearch.{cubeTask}
+use Rattle.ida_star.proofs.PassesLaws.{PassesRising, passes-start, passes-next, passes-end, passes-room, passes-hit, pass-starts}
 use native.Mathlib.Omega.{arith}
 use Rattle.ida_star.proofs.rise.Statement.{statement}
 use Rattle.ida_star.proofs.rise.Tie as tie
 
 abbrev Inv-loop : tie.InvT-loop
-Inv-loop n cube table depth moves limit work₀ out₀ left₀ work out left = Rising (task n table depth moves) limit cube work₀ work out₀ out left
+Inv-loop n cube table depth moves limit work₀ out₀ left₀ work out left = PassesRising (cubeTask n table depth moves) limit cube work₀ work out₀ out left
 
 abbrev μ-loop : tie.MeasureT-loop
 μ-loop n cube table depth moves limit work₀ out₀ left₀ work out left = limit + 1 - left
 
 loop-holds : tie.Need-loop-holds Inv-loop μ-loop
-loop-holds c = rise-start
+loop-holds c = passes-start
 
 pass-requires : tie.Need-pass-requires Inv-loop μ-loop
 pass-requires c κs =
@@ -27,7 +27,7 @@ store-requires c κs =
     let d = c .before .before .before .before .before in
     let k = d .before .before in
     let l = k .before .loop in
-    rise-room (l .inv) (k .loop-test .taken) (d .pass .ensures) (c .before .before .if1 .taken)
+    passes-room (l .inv) (k .loop-test .taken) (d .pass .ensures) (c .before .before .if1 .taken)
     (omega (arith, k .before .before .before .before .before .before .before .pre .1, ap length (l .inv .kept)))
 
 same-length : tie.Need-same-length Inv-loop μ-loop
@@ -44,7 +44,7 @@ returns : tie.Need-returns Inv-loop μ-loop
 returns c =
     let d = c .before .before .before .before .before .before .before .before in
     let k = d .before .before in
-    rise-hit (k .before .loop .inv) (k .loop-test .taken) (d .pass .ensures) (c .before .before .before .before .before .if1 .taken) (c .before .before .store .ensures)
+    passes-hit (k .before .loop .inv) (k .loop-test .taken) (d .pass .ensures) (c .before .before .before .before .before .if1 .taken) (c .before .before .store .ensures)
 
 add-left : tie.Need-add-left Inv-loop μ-loop
 add-left c = omega arith
@@ -56,7 +56,7 @@ loop-again : tie.Need-loop-again Inv-loop μ-loop
 loop-again c =
     let d = c .before .before .before in
     let k = d .before .before in
-    rise-next (k .before .loop .inv) (k .loop-test .taken) (d .pass .ensures) (c .if1 .left) (d .pass .kept .1 .1 .1 .1 .1 .1 .0)
+    passes-next (k .before .loop .inv) (k .loop-test .taken) (d .pass .ensures) (c .if1 .left) (d .pass .kept .1 .1 .1 .1 .1 .1 .0)
 
 same-length-3 : tie.Need-same-length-3 Inv-loop μ-loop
 same-length-3 c = c .before .loop .inv .long
@@ -65,7 +65,7 @@ same-length-4 : tie.Need-same-length-4 Inv-loop μ-loop
 same-length-4 c = ap length (c .before .loop .inv .kept)
 
 returns-2 : tie.Need-returns-2 Inv-loop μ-loop
-returns-2 c = rise-end (c .before .loop .inv) (c .loop-test .left)
+returns-2 c = passes-end (c .before .loop .inv) (c .loop-test .left)
 
 pub rise-spec : {M : Type 1} → statement M
 rise-spec =

@@ -5,9 +5,10 @@ use mathlib.Core.Bool.{true≢false}
 use lib.ListN.{length, drop, length-drop}
 use lib.Seq.{length-take-le}
 use Rattle.generic_cube.specs.Code.{moveOf}
-use Rattle.generic_cube.specs.CodeLaws.{Fair, taken, refused}
+use Rattle.generic_cube.specs.Inner.{Fair}
+use Rattle.generic_cube.proofs.CodeLaws.{taken, refused}
 use Rattle.geometric_moves.specs.Turn.{moved}
-use Rattle.ida_star.specs.VisitLaws.{put-next}
+use Rattle.ida_star.proofs.VisitLaws.{put-next}
 use native.Mathlib.Omega.{arith}
 use borrow.Author.Needs.{needs}
 use Rattle.ida_star.proofs.turn_level.Statement.{statement}

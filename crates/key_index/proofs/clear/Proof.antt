@@ -4,7 +4,7 @@ use native.Mathlib.Omega.{arith}
 use Prim.Native.Nat.{_-_}
 use mathlib.Core.Path.{refl}
 use lib.ListN.{length, length-set}
-use Rattle.ground.specs.Loops.{Filling, fill-none, fill-more, cleared}
+use Rattle.ground.proofs.FillLaws.{Filling, fill-none, fill-more, cleared}
 use Rattle.key_index.proofs.clear.Statement.{statement}
 use Rattle.key_index.proofs.clear.Tie as tie
 

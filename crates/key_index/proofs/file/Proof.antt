@@ -6,8 +6,8 @@ use mathlib.Core.Path.{_≡_, refl, sym, _∙_}
 use mathlib.Core.Bool.{true≢false}
 use borrow.Author.Tests.{not-false}
 use lib.ListN.{length}
-use Rattle.key_index.specs.Index.{Indexed}
-use Rattle.key_index.specs.IndexLaws.{index-none, filing-less}
+use Rattle.key_index.specs.InnerIndex.{Indexed}
+use Rattle.key_index.proofs.IndexLaws.{index-none, filing-less}
 use Rattle.key_index.proofs.file.Statement.{statement}
 use Rattle.key_index.proofs.file.Tie as tie
 

@@ -5,19 +5,19 @@ use mathlib.Core.Path.{_≡_, refl, sym, ap, _∙_}
 use mathlib.Core.Bool.{true≢false}
 use borrow.Author.Tests.{not-true}
 use lib.ListN.{length}
-use Rattle.table.specs.Table.{keyAt}
-use Rattle.key_index.specs.Index.{hashOf, placeOf, Free}
-use Rattle.key_index.specs.WordLaws.{place-told}
-use Rattle.key_index.specs.IndexLaws.{index-skip, index-more, within-told, free-at, free-inside}
+use Rattle.table.specs.Entries.{entryKey}
+use Rattle.key_index.specs.InnerIndex.{hashOf, runStart, Free}
+use Rattle.key_index.proofs.WordLaws.{place-told}
+use Rattle.key_index.proofs.IndexLaws.{index-skip, index-more, within-told, free-at, free-inside}
 use borrow.Author.Needs.{needs}
 use Rattle.key_index.proofs.file_one.Statement.{statement}
 use Rattle.key_index.proofs.file_one.Tie as tie
 
 -- the hash is that of entry i's key, and p the first empty slot of its run
-hashed : (c : tie.After-hash) → c .hash .result ≡ hashOf (keyAt (c .before .before .before .before .args .m) (c .before .before .before .before .args .table .now) (c .before .before .before .before .args .i))
+hashed : (c : tie.After-hash) → c .hash .result ≡ hashOf (entryKey (c .before .before .before .before .args .m) (c .before .before .before .before .args .table .now) (c .before .before .before .before .args .i))
 hashed c = c .hash .ensures .0 ∙ ap hashOf (c .before .key-at .ensures)
 
-gap : (c : tie.After-known-told) → let a = c .before .before .before .before .before .before .before .before .before .before .before .before .args in Free (a .index .now) (placeOf (length (a .index .now)) (keyAt (a .m) (a .table .now) (a .i))) (c .before .p .given .0 .0)
+gap : (c : tie.After-known-told) → let a = c .before .before .before .before .before .before .before .before .before .before .before .before .args in Free (a .index .now) (runStart (length (a .index .now)) (entryKey (a .m) (a .table .now) (a .i))) (c .before .p .given .0 .0)
 gap c = free-at (place-told _ _ (hashed (c .before .before .before .before .before .before .before .before)) (c .before .before .before .before .before .place .ensures .0)) (c .before .before .before .free .ensures .gap _ (c .before .p .given .1))
 
 room : (c : tie.After-known-told) → c .before .p .given .0 .0 < length (c .before .before .before .before .before .before .before .before .before .before .before .before .args .index .now)

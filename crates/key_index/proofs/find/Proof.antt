@@ -1,15 +1,16 @@
 -- `find`: what the walk or the run tells of a key of the classes.
 use native.Mathlib.Omega.{arith}
 use borrow.Author.Tests.{not-true, not-false}
-use Rattle.key_index.specs.Index.{Told, Within}
-use Rattle.key_index.specs.WordLaws.{place-told}
-use Rattle.key_index.specs.IndexLaws.{sought-outside, sought-here, sought-plain, sought-probed, within-told, probed-at}
+use Rattle.key_index.specs.Inner.{Says}
+use Rattle.key_index.specs.InnerIndex.{OfClasses}
+use Rattle.key_index.proofs.WordLaws.{place-told}
+use Rattle.key_index.proofs.IndexLaws.{sought-outside, sought-here, sought-plain, sought-probed, within-told, probed-at}
 use borrow.Author.Needs.{needs}
 use Rattle.key_index.proofs.find.Statement.{statement}
 use Rattle.key_index.proofs.find.Tie as tie
 
 -- whether the key is of the classes
-told : (c : tie.After-is-within) → Told (Within (c .before .before .before .before .before .args .classes) (c .before .before .before .before .before .args .key .now)) (c .is-within .result)
+told : (c : tie.After-is-within) → Says (OfClasses (c .before .before .before .before .before .args .classes) (c .before .before .before .before .before .args .key .now)) (c .is-within .result)
 told c = within-told (c .before .before .before .before .before .args .classes) _ (c .before .hash .ensures .0) (c .is-within .ensures)
 
 hash-requires : tie.Need-hash-requires

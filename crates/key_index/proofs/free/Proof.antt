@@ -3,13 +3,13 @@ use borrow.Author.Needs.{needs}
 use native.Mathlib.Omega.{arith}
 use Prim.Native.Nat.{_+_, _-_, _≤_}
 use mathlib.Core.Path.{_≡_, refl}
-use Rattle.key_index.specs.Index.{run}
-use Rattle.key_index.specs.IndexLaws.{Full, run-more, freed-gap, freed-lost}
+use Rattle.key_index.specs.InnerIndex.{runLength}
+use Rattle.key_index.proofs.IndexLaws.{Full, probe-more, freed-gap, freed-lost}
 use Rattle.key_index.proofs.free.Statement.{statement}
 use Rattle.key_index.proofs.free.Tie as tie
 
 abbrev Inv-loop : tie.InvT-loop
-Inv-loop index at end p₀ p = (at ≤ p) × (p ≤ end) × (end ≡ at + run) × Full index at p
+Inv-loop index at end p₀ p = (at ≤ p) × (p ≤ end) × (end ≡ at + runLength) × Full index at p
 
 abbrev μ-loop : tie.MeasureT-loop
 μ-loop index at end p₀ p = end - p
@@ -36,7 +36,7 @@ loop-less : tie.Need-loop-less Inv-loop μ-loop
 loop-less c = search needs
 
 loop-again : tie.Need-loop-again Inv-loop μ-loop
-loop-again c = (omega arith, omega arith, c .before .before .before .loop .inv .2, run-more _ _ _ (c .before .before .before .loop .inv .3) (c .if1 .left))
+loop-again c = (omega arith, omega arith, c .before .before .before .loop .inv .2, probe-more _ _ _ (c .before .before .before .loop .inv .3) (c .if1 .left))
 
 returns-2 : tie.Need-returns-2 Inv-loop μ-loop
 returns-2 c = freed-lost

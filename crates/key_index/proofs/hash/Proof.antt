@@ -4,8 +4,8 @@ use native.Mathlib.Omega.{arith}
 use Prim.Native.Nat.{_-_, _≤_, _<_, _/_}
 use mathlib.Core.Path.{_≡_, refl}
 use lib.ListN.{length}
-use Rattle.key_index.specs.Index.{hashUp}
-use Rattle.key_index.specs.WordLaws.{hash-none, hash-more, hash-all}
+use Rattle.key_index.specs.InnerIndex.{hashUp}
+use Rattle.key_index.proofs.WordLaws.{hash-none, hash-more, hash-all}
 use Rattle.key_index.proofs.hash.Statement.{statement}
 use Rattle.key_index.proofs.hash.Tie as tie
 

@@ -1,5 +1,5 @@
 -- `is_within`: a class is below the lowest, or the highest decides.
-use Rattle.key_index.specs.IndexLaws.{within-out, within-in}
+use Rattle.key_index.proofs.IndexLaws.{within-out, within-in}
 use Rattle.key_index.proofs.is_within.Statement.{statement}
 use Rattle.key_index.proofs.is_within.Tie as tie
 

@@ -3,13 +3,14 @@ use borrow.Author.Needs.{needs}
 use native.Mathlib.Omega.{arith}
 use Prim.Native.Nat.{_+_, _-_, _≤_}
 use mathlib.Core.Path.{_≡_, refl, sym, _∙_}
-use Rattle.key_index.specs.Index.{run, Passed}
-use Rattle.key_index.specs.IndexLaws.{comparable, slot-held, Full, run-more, probed-here, probed-gap, probed-lost}
+use Rattle.key_index.specs.InnerIndex.{runLength}
+use Rattle.key_index.specs.Inner.{Passed}
+use Rattle.key_index.proofs.IndexLaws.{comparable, slot-held, Full, probe-more, probed-here, probed-gap, probed-lost}
 use Rattle.key_index.proofs.probe.Statement.{statement}
 use Rattle.key_index.proofs.probe.Tie as tie
 
 abbrev Inv-loop : tie.InvT-loop
-Inv-loop table m key index at end p₀ p = (at ≤ p) × (p ≤ end) × (end ≡ at + run) × Full index at p × Passed m table key index at p
+Inv-loop table m key index at end p₀ p = (at ≤ p) × (p ≤ end) × (end ≡ at + runLength) × Full index at p × Passed m table key index at p
 
 abbrev μ-loop : tie.MeasureT-loop
 μ-loop table m key index at end p₀ p = end - p
@@ -57,7 +58,7 @@ loop-less c = search needs
 loop-again : tie.Need-loop-again Inv-loop μ-loop
 loop-again c =
     let l = c .before .before .before .before .before .before .loop in
-    (omega arith, omega arith, l .inv .2, run-more _ _ _ (l .inv .3) (c .before .before .before .if1 .left), run-more _ _ _ (l .inv .4) (λ e. c .before .same .ensures .no (c .if2 .left) (c .before .before .key-at .ensures ∙ e)))
+    (omega arith, omega arith, l .inv .2, probe-more _ _ _ (l .inv .3) (c .before .before .before .if1 .left), probe-more _ _ _ (l .inv .4) (λ e. c .before .same .ensures .no (c .if2 .left) (c .before .before .key-at .ensures ∙ e)))
 
 returns-3 : tie.Need-returns-3 Inv-loop μ-loop
 returns-3 c = probed-lost

@@ -5,14 +5,14 @@ use Prim.Native.Nat.{ℕ, _-_, _*_, _/_, _≤_}
 use mathlib.Core.Path.{_≡_, refl, sym, ap, _∙_}
 use mathlib.Core.List.{List}
 use lib.ListN.{length}
-use Rattle.key_index.specs.Index.{wordOf}
-use Rattle.key_index.specs.WordLaws.{Same, same-more, same-all}
-use Rattle.key_index.specs.IndexLaws.{told-yes, told-no}
+use Rattle.key_index.specs.InnerIndex.{wordOf}
+use Rattle.key_index.proofs.WordLaws.{SameWords, same-more, same-all}
+use Rattle.key_index.proofs.IndexLaws.{told-yes, told-no}
 use Rattle.key_index.proofs.same.Statement.{statement}
 use Rattle.key_index.proofs.same.Tie as tie
 
 abbrev Inv-loop : tie.InvT-loop
-Inv-loop a b parts i₀ i = (i ≤ parts) × (parts ≡ length a / 6) × Same a b (6 * i)
+Inv-loop a b parts i₀ i = (i ≤ parts) × (parts ≡ length a / 6) × SameWords a b (6 * i)
 
 abbrev μ-loop : tie.MeasureT-loop
 μ-loop a b parts i₀ i = parts - i

@@ -4,14 +4,14 @@ use native.Mathlib.Omega.{arith}
 use Prim.Native.Nat.{ℕ, _-_, _≤_, _<_}
 use mathlib.Core.Path.{_≡_, sym, _∙_}
 use borrow.Author.Count.{below-more}
-use Rattle.table.specs.Table.{keyAt}
-use Rattle.table.specs.TableLaws.{entries-most}
-use Rattle.key_index.specs.IndexLaws.{comparable, told-yes, told-no}
+use Rattle.table.specs.Entries.{entryKey}
+use Rattle.table.proofs.TableLaws.{entries-most}
+use Rattle.key_index.proofs.IndexLaws.{comparable, told-yes, told-no}
 use Rattle.key_index.proofs.scan.Statement.{statement}
 use Rattle.key_index.proofs.scan.Tie as tie
 
 abbrev Inv-loop : tie.InvT-loop
-Inv-loop table m count key i₀ i = (i ≤ count) × ((j : ℕ) → j < i → keyAt m table j ≡ key → ⊥)
+Inv-loop table m count key i₀ i = (i ≤ count) × ((j : ℕ) → j < i → entryKey m table j ≡ key → ⊥)
 
 abbrev μ-loop : tie.MeasureT-loop
 μ-loop table m count key i₀ i = count - i

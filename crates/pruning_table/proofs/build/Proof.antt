@@ -4,12 +4,12 @@ use Prim.Native.Nat.{_+_, _*_, _≤_}
 use mathlib.Core.Path.{sym}
 use mathlib.Core.Bool.{false}
 use lib.ListN.{length}
-use Rattle.generic_cube.specs.Numbers.{stickers}
-use Rattle.generic_cube.specs.CodeLaws.{small-cube}
-use Rattle.pruning_table.specs.HeldLaws.{room-bytes}
-use Rattle.pruning_table.specs.SizeLaws.{cube-some}
-use Rattle.pruning_table.specs.StageLaws.{staged-first}
-use Rattle.pruning_table.specs.FinishLaws.{used-long, used-sortable, finished, finished-to, finished-over}
+use Rattle.generic_cube.specs.Sizes.{stickers}
+use Rattle.generic_cube.proofs.CodeLaws.{small-cube}
+use Rattle.table.proofs.EntryListLaws.{room-bytes}
+use Rattle.table_level.proofs.SizeLaws.{cube-some}
+use Rattle.table_climb.proofs.StageLaws.{staged-first}
+use Rattle.pruning_table.proofs.FinishLaws.{used-long, used-sortable, finished, finished-to, finished-over}
 use borrow.Author.Needs.{needs}
 use Rattle.pruning_table.proofs.build.Statement.{statement}
 use Rattle.pruning_table.proofs.build.Tie as tie

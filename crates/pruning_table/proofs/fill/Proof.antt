@@ -1,8 +1,8 @@
 -- `fill`: a cube of that size fits into 294 bytes.
 use native.Mathlib.Omega.{arith}
 use mathlib.Core.Path.{sym}
-use Rattle.generic_cube.specs.CodeLaws.{small-cube}
-use Rattle.pruning_table.specs.SizeLaws.{cube-part}
+use Rattle.generic_cube.proofs.CodeLaws.{small-cube}
+use Rattle.table_level.proofs.SizeLaws.{cube-part}
 use borrow.Author.Needs.{needs}
 use Rattle.pruning_table.proofs.fill.Statement.{statement}
 use Rattle.pruning_table.proofs.fill.Tie as tie

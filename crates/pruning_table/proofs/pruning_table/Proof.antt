@@ -3,9 +3,9 @@ use native.Mathlib.Omega.{arith}
 use mathlib.Core.Path.{_≡_, sym, ap, _∙_}
 use lib.ListN.{length}
 use lib.Seq.{take-length}
-use Rattle.pruning_table.specs.Built.{earlyRefusal}
-use Rattle.pruning_table.specs.SizeLaws.{cube-some}
-use Rattle.pruning_table.specs.ResultLaws.{early-ready, wiped, result-refused, result-over, result-exact}
+use Rattle.pruning_table.specs.PruningTable.{earlyRefusal}
+use Rattle.table_level.proofs.SizeLaws.{cube-some}
+use Rattle.pruning_table.proofs.ResultLaws.{early-ready, wiped, result-refused, result-over, result-exact}
 use borrow.Author.Needs.{needs}
 use Rattle.pruning_table.proofs.pruning_table.Statement.{statement}
 use Rattle.pruning_table.proofs.pruning_table.Tie as tie

@@ -1,10 +1,12 @@
 -- `count_moves`: what was counted, with what is left to read, is the whole.
 use native.Mathlib.Omega.{arith}
+use mathlib.Core.List.{[]}
 use Prim.Native.Nat.{_-_}
 use mathlib.Core.Path.{sym, _∙_}
 use lib.ListN.{length}
-use Rattle.scramble_parser.specs.Words.{Found}
-use Rattle.scramble_parser.specs.ParseLaws.{Counted, count-none, count-end, count-more, count-bad, found, none-left}
+use Rattle.scramble_parser.specs.Inner.{Found}
+use Rattle.scramble_parser.proofs.ParseLaws.{Counted, count-none, count-end, count-more, count-bad}
+use Rattle.scramble_parser.proofs.WordLaws.{found, none-left}
 use borrow.Author.Needs.{needs}
 use Rattle.scramble_parser.proofs.count_moves.Statement.{statement}
 use Rattle.scramble_parser.proofs.count_moves.Tie as tie
@@ -16,14 +18,14 @@ abbrev μ-loop : tie.MeasureT-loop
 μ-loop n text i₀ count₀ i count = length text - i
 
 -- the word that was found
-word : (c : tie.After-known-told Inv-loop μ-loop) → Found (c .before .before .before .before .before .before .args .text .now) (c .before .before .before .before .loop .i) (c .before .start .given .0 .0) (c .before .start .given .0 .1 .0)
-word c = found (c .before .before .before .before .before .before .args .text .now) (c .before .before .before .before .loop .i) (c .before .start .given .1) (c .before .before .before .next-word .ensures)
+word : (c : tie.After-known-told Inv-loop μ-loop) → Found [] (c .before .before .before .before .before .before .args .text .now) (c .before .before .before .before .loop .i) (c .before .start .given .0 .0) (c .before .start .given .0 .1 .0)
+word c = found [] (c .before .before .before .before .before .before .args .text .now) (c .before .before .before .before .loop .i) (c .before .start .given .1) (c .before .before .before .next-token .ensures)
 
 loop-holds : tie.Need-loop-holds Inv-loop μ-loop
 loop-holds c = count-none
 
-next-word-requires : tie.Need-next-word-requires Inv-loop μ-loop
-next-word-requires c κs = c .loop .inv .within
+next-token-requires : tie.Need-next-token-requires Inv-loop μ-loop
+next-token-requires c κs = c .loop .inv .within
 
 enum-known-start : tie.Need-enum-known-start Inv-loop μ-loop
 enum-known-start c = search needs
@@ -32,7 +34,7 @@ enum-told : tie.Need-enum-told Inv-loop μ-loop
 enum-told c = search needs
 
 returns : tie.Need-returns Inv-loop μ-loop
-returns c = count-end (c .before .before .before .loop .inv) (none-left _ _ (c .enum-told .given .1) (c .before .before .next-word .ensures))
+returns c = count-end (c .before .before .before .loop .inv) (none-left [] _ _ (c .enum-told .given .1) (c .before .before .next-token .ensures))
 
 sub-read-token : tie.Need-sub-read-token Inv-loop μ-loop
 sub-read-token c = let f = word c in omega arith
@@ -71,7 +73,7 @@ count-moves-spec =
     Inv-loop
     μ-loop
     loop-holds
-    next-word-requires
+    next-token-requires
     enum-known-start
     enum-told
     returns

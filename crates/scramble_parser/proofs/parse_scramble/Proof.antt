@@ -3,11 +3,12 @@ use native.Mathlib.Omega.{arith}
 use mathlib.Core.Logic.{⊎-elim}
 use mathlib.Core.Path.{_≡_, sym, _∙_}
 use mathlib.Core.Bool.{true}
-use Rattle.scramble_parser.specs.Words.{wordsFrom}
+use Rattle.scramble_parser.specs.Words.{tokensOf}
 use Rattle.scramble_parser.specs.Parse.{reading}
 use Rattle.scramble_parser.specs.declared.Parsed.the-variants.{Moves}
-use Rattle.generic_cube.specs.Numbers.{sized}
-use Rattle.scramble_parser.specs.ParseLaws.{tally, parse-size, parse-bad, parse-short, parse-room, parse-good}
+use Rattle.generic_cube.specs.Sizes.{sized}
+use Rattle.scramble_parser.specs.Inner.{tally}
+use Rattle.scramble_parser.proofs.ParseLaws.{parse-size, parse-bad, parse-short, parse-room, parse-good}
 use borrow.Author.Needs.{needs}
 use Rattle.scramble_parser.proofs.parse_scramble.Statement.{statement}
 use Rattle.scramble_parser.proofs.parse_scramble.Tie as tie
@@ -19,7 +20,7 @@ is-size-requires c κs = search needs
 fine : (c : tie.Then1) → sized (c .before .before .before .before .args .n) ≡ true
 fine c = sym (c .before .is-size .ensures) ∙ c .if1 .taken
 
-count : (c : tie.After-r) → Moves (c .r .given .0 .0) ≡ tally 0 (reading (c .before .before .before .before .before .before .before .args .n) (wordsFrom (c .before .before .before .before .before .before .before .args .text .now) 0))
+count : (c : tie.After-r) → Moves (c .r .given .0 .0) ≡ tally 0 (reading (c .before .before .before .before .before .before .before .args .n) (tokensOf (c .before .before .before .before .before .before .before .args .text .now)))
 count c = sym (c .r .given .1) ∙ c .before .before .count-moves .ensures
 
 count-moves-requires : tie.Need-count-moves-requires

@@ -1,14 +1,16 @@
 -- `write_moves`: what is stored, with what is left to read, is the whole.
 use Prim.Native.Nat.{_-_}
 use native.Mathlib.Omega.{arith}
+use mathlib.Core.List.{[]}
 use Prim.Native.Nat.{_<_}
 use mathlib.Core.Path.{_≡_}
 use Rattle.scramble_parser.specs.Token.{readToken}
 use Rattle.scramble_parser.specs.declared.Token.the-variants.{Is}
 use mathlib.Core.Path.{sym, _∙_}
 use lib.ListN.{length, take, drop}
-use Rattle.scramble_parser.specs.Words.{Found}
-use Rattle.scramble_parser.specs.ParseLaws.{Stored, store-none, store-end, store-more, store-bad, store-room, found, none-left}
+use Rattle.scramble_parser.specs.Inner.{Found}
+use Rattle.scramble_parser.proofs.ParseLaws.{Stored, store-none, store-end, store-more, store-bad, store-room}
+use Rattle.scramble_parser.proofs.WordLaws.{found, none-left}
 use borrow.Author.Needs.{needs}
 use Rattle.scramble_parser.proofs.write_moves.Statement.{statement}
 use Rattle.scramble_parser.proofs.write_moves.Tie as tie
@@ -20,8 +22,8 @@ abbrev μ-loop : tie.MeasureT-loop
 μ-loop n text out₀ i₀ j₀ out i j = length text - i
 
 -- the word that was found, and the code that it was read as
-word : (c : tie.After-known-told Inv-loop μ-loop) → Found (c .before .before .before .before .before .before .before .args .text .now) (c .before .before .before .before .loop .i) (c .before .start .given .0 .0) (c .before .start .given .0 .1 .0)
-word c = found (c .before .before .before .before .before .before .before .args .text .now) (c .before .before .before .before .loop .i) (c .before .start .given .1) (c .before .before .before .next-word .ensures)
+word : (c : tie.After-known-told Inv-loop μ-loop) → Found [] (c .before .before .before .before .before .before .before .args .text .now) (c .before .before .before .before .loop .i) (c .before .start .given .0 .0) (c .before .start .given .0 .1 .0)
+word c = found [] (c .before .before .before .before .before .before .before .args .text .now) (c .before .before .before .before .loop .i) (c .before .start .given .1) (c .before .before .before .next-token .ensures)
 
 code : (c : tie.After-known-told2 Inv-loop μ-loop) → let w = c .before .before .before .before .before .before .start .given .0 in
     Is (c .before .code .given .0 .0) ≡ readToken (c .before .before .before .before .before .before .before .before .before .before .before .before .args .n) (take (w .1 .0 - w .0) (drop (w .0) (c .before .before .before .before .before .before .before .before .before .before .before .before .args .text .now)))
@@ -33,8 +35,8 @@ room c = store-room (c .before .before .before .before .before .before .before .
 loop-holds : tie.Need-loop-holds Inv-loop μ-loop
 loop-holds c = store-none (c .before .before .pre .1)
 
-next-word-requires : tie.Need-next-word-requires Inv-loop μ-loop
-next-word-requires c κs = c .loop .inv .within
+next-token-requires : tie.Need-next-token-requires Inv-loop μ-loop
+next-token-requires c κs = c .loop .inv .within
 
 enum-known-start : tie.Need-enum-known-start Inv-loop μ-loop
 enum-known-start c = search needs
@@ -46,7 +48,7 @@ same-length : tie.Need-same-length Inv-loop μ-loop
 same-length c = c .before .before .before .loop .inv .long
 
 returns : tie.Need-returns Inv-loop μ-loop
-returns c = store-end (c .before .before .before .loop .inv) (none-left _ _ (c .enum-told .given .1) (c .before .before .next-word .ensures))
+returns c = store-end (c .before .before .before .loop .inv) (none-left [] _ _ (c .enum-told .given .1) (c .before .before .next-token .ensures))
 
 sub-read-token : tie.Need-sub-read-token Inv-loop μ-loop
 sub-read-token c = let f = word c in omega arith
@@ -94,7 +96,7 @@ write-moves-spec =
     Inv-loop
     μ-loop
     loop-holds
-    next-word-requires
+    next-token-requires
     enum-known-start
     enum-told
     same-length

@@ -1,15 +1,15 @@
 use native.Mathlib.Omega.{arith}
 use mathlib.Core.Path.{ap}
 use Prim.Native.Nat.{ℕ, _+_, _*_}
-use Rattle.sticker.specs.PlaceLaws.{Steps, steps, number-below}
+use Rattle.sticker.proofs.PlaceLaws.{FlatRoom, flat-room, number-below}
 use borrow.Author.Needs.{needs}
 use Rattle.sticker.proofs.flat_of.Statement.{statement}
 use Rattle.sticker.proofs.flat_of.Tie as tie
 
-here : (c : tie.After-number) → Steps (c .before .args .n) (c .number .result) (c .before .args .row) (c .before .args .col)
+here : (c : tie.After-number) → FlatRoom (c .before .args .n) (c .number .result) (c .before .args .row) (c .before .args .col)
 here c =
     let a = c .before .args in
-    steps (a .n) (c .number .result) (a .row) (a .col) (omega arith) (number-below (a .f) _ (c .number .ensures)) (omega arith) (omega arith)
+    flat-room (a .n) (c .number .result) (a .row) (a .col) (omega arith) (number-below (a .f) _ (c .number .ensures)) (omega arith) (omega arith)
 
 number-requires : tie.Need-number-requires
 number-requires c κs = search needs

@@ -1,5 +1,5 @@
 use mathlib.Core.Path.{sym, _∙_}
-use Rattle.sticker.specs.PlaceLaws.{found-at, found-none, slot-small}
+use Rattle.sticker.proofs.PlaceLaws.{found-at, found-none, slot-small}
 use native.Mathlib.Omega.{arith}
 use borrow.Author.Needs.{needs}
 use Rattle.sticker.proofs.index_of.Statement.{statement}

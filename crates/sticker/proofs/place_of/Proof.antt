@@ -3,7 +3,7 @@ use native.Mathlib.Nat.{mod-lt}
 use Prim.Native.Nat.{_/_, _%_, _<_}
 use mathlib.Core.Path.{ap, _∙_}
 use Rattle.sticker.specs.Place.{seat, mid}
-use Rattle.sticker.specs.PlaceLaws.{face-number}
+use Rattle.sticker.proofs.PlaceLaws.{face-number}
 use borrow.Author.Needs.{needs}
 use Rattle.sticker.proofs.place_of.Statement.{statement}
 use Rattle.sticker.proofs.place_of.Tie as tie

@@ -3,7 +3,7 @@ use Prim.Native.Nat.{_-_, _≤_}
 use mathlib.Core.Path.{_≡_, refl, sym, _∙_}
 use lib.ListN.{length, drop}
 use Rattle.table.specs.Order.{orderOf}
-use Rattle.table.specs.OrderLaws.{order-less, order-more, order-next, order-end}
+use Rattle.table.proofs.OrderLaws.{order-less, order-more, order-next, order-end}
 use native.Mathlib.Omega.{arith}
 use Rattle.table.proofs.compare.Statement.{statement}
 use Rattle.table.proofs.compare.Tie as tie

@@ -3,10 +3,10 @@ use Prim.Native.Nat.{_+_, _-_, _≤_, _<_}
 use mathlib.Core.Path.{_≡_, refl, sym, ap, _∙_}
 use lib.ListN.{length}
 use Rattle.table.specs.Order.{orderOf, isLess}
-use Rattle.table.specs.OrderLaws.{order-told}
-use Rattle.table.specs.Table.{keyAt, entries, rises, wellFormed}
-use Rattle.table.specs.TableLaws.{length-key, entries-most, form-cut, form-rises, form-empty, rise-next, rise-fails, rise-end}
-use Rattle.table.proofs.Tags.{tag-less, tag-not-less}
+use Rattle.table.proofs.OrderLaws.{order-told}
+use Rattle.table.specs.Entries.{entryKey}
+use Rattle.table.specs.Table.{entryCount, wellFormed}
+use Rattle.table.proofs.TableLaws.{risesFrom, length-key, entries-most, form-cut, form-rises, form-empty, rise-next, rise-fails, rise-end}
 use native.Mathlib.Omega.{arith}
 use borrow.Author.Needs.{needs}
 use Rattle.table.proofs.is_well_formed.Statement.{statement}
@@ -14,7 +14,7 @@ use Rattle.table.proofs.is_well_formed.Tie as tie
 
 abbrev Inv-loop : tie.InvT-loop
 Inv-loop table m size count last i₀ i =
-    (i ≤ last) × (count ≡ entries m table) × (last ≡ count - 1) × (0 < count) × (wellFormed m table ≡ rises (keyAt m table) i (last - i))
+    (i ≤ last) × (count ≡ entryCount m table) × (last ≡ count - 1) × (0 < count) × (wellFormed m table ≡ risesFrom (entryKey m table) i (last - i))
 
 abbrev μ-loop : tie.MeasureT-loop
 μ-loop table m size count last i₀ i = last - i
@@ -23,8 +23,8 @@ abbrev μ-loop : tie.MeasureT-loop
 abbrev loop-of-compare : tie.After-compare Inv-loop μ-loop → tie.At-loop Inv-loop μ-loop
 loop-of-compare c = c .before .before .before .before
 
-abbrev loop-of-enum-told : tie.After-enum-told Inv-loop μ-loop → tie.At-loop Inv-loop μ-loop
-loop-of-enum-told c = loop-of-compare (c .before .before)
+abbrev loop-of-then : tie.Then3 Inv-loop μ-loop → tie.At-loop Inv-loop μ-loop
+loop-of-then c = loop-of-compare (c .before .before)
 
 abbrev start-of-key-at : tie.After-key-at Inv-loop μ-loop → tie.Start Inv-loop μ-loop
 start-of-key-at c = c .before .before .before .before .before .before
@@ -35,12 +35,12 @@ start-of-key-at2 c = start-of-key-at (c .before)
 abbrev start-of-compare : tie.After-compare Inv-loop μ-loop → tie.Start Inv-loop μ-loop
 start-of-compare c = start-of-key-at2 (c .before)
 
-abbrev start-of-enum-told : tie.After-enum-told Inv-loop μ-loop → tie.Start Inv-loop μ-loop
-start-of-enum-told c = start-of-compare (c .before .before)
+abbrev start-of-then : tie.Then3 Inv-loop μ-loop → tie.Start Inv-loop μ-loop
+start-of-then c = start-of-compare (c .before .before)
 
 -- the order of key i and the next
 compared : (c : tie.After-compare Inv-loop μ-loop)
-    → orderOf (keyAt (start-of-compare c .args .m) (start-of-compare c .args .table .now) (loop-of-compare c .loop .i)) (keyAt (start-of-compare c .args .m) (start-of-compare c .args .table .now) (loop-of-compare c .loop .i + 1))
+    → orderOf (entryKey (start-of-compare c .args .m) (start-of-compare c .args .table .now) (loop-of-compare c .loop .i)) (entryKey (start-of-compare c .args .m) (start-of-compare c .args .table .now) (loop-of-compare c .loop .i + 1))
     ≡ c .compare .result
 compared c = order-told (c .before .before .key-at .ensures) (c .before .key-at2 .ensures) (c .compare .ensures)
 
@@ -81,12 +81,12 @@ compare-requires c κs =
     ap length (c .before .key-at .ensures) ∙ length-key (a .m) (l .i) (a .table .now) (omega arith)
     ∙ sym (ap length (c .key-at2 .ensures) ∙ length-key (a .m) (l .i + 1) (a .table .now) (omega arith))
 
-enum-told : tie.Need-enum-told Inv-loop μ-loop
-enum-told c = search needs
+is-less-requires : tie.Need-is-less-requires Inv-loop μ-loop
+is-less-requires c κs = search needs
 
 add-i : tie.Need-add-i Inv-loop μ-loop
 add-i c =
-    let a = start-of-enum-told c .args in
+    let a = start-of-then c .args in
     omega (arith, entries-most (a .m) (a .table .now))
 
 loop-less : tie.Need-loop-less Inv-loop μ-loop
@@ -94,15 +94,15 @@ loop-less c = omega arith
 
 loop-again : tie.Need-loop-again Inv-loop μ-loop
 loop-again c =
-    let l = loop-of-enum-told c .loop in
-    let o = compared (c .before .before) ∙ tag-less _ (c .before .match .keys1) in
-    (omega arith, refl, refl, l .inv .3, l .inv .4 ∙ rise-next _ (l .i) _ (c .before .before .before .before .before .loop-test .taken) (ap isLess o))
+    let l = loop-of-then c .loop in
+    let o = ap isLess (compared (c .before .before)) ∙ sym (c .before .is-less .ensures) ∙ c .if3 .taken in
+    (omega arith, refl, refl, l .inv .3, l .inv .4 ∙ rise-next _ (l .i) _ (c .before .before .before .before .before .loop-test .taken) o)
 
 returns-3 : tie.Need-returns-3 Inv-loop μ-loop
 returns-3 c =
-    let l = c .before .before .before .before .before .loop in
-    let o = ap isLess (compared (c .before)) ∙ tag-not-less (c .before .compare .result) (c .match .keys2) in
-    sym (l .inv .4 ∙ rise-fails _ (l .i) _ (c .before .before .before .before .loop-test .taken) o)
+    let l = loop-of-compare (c .before .before) .loop in
+    let o = ap isLess (compared (c .before .before)) ∙ sym (c .before .is-less .ensures) ∙ c .if3 .left in
+    sym (l .inv .4 ∙ rise-fails _ (l .i) _ (c .before .before .before .before .before .loop-test .taken) o)
 
 returns-4 : tie.Need-returns-4 Inv-loop μ-loop
 returns-4 c =
@@ -126,7 +126,7 @@ is-well-formed-spec =
     add-key-at
     key-at-requires-2
     compare-requires
-    enum-told
+    is-less-requires
     add-i
     loop-less
     loop-again

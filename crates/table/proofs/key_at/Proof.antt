@@ -1,7 +1,7 @@
 use Prim.Native.Nat.{ℕ, _+_, _-_, _*_}
 use mathlib.Core.Path.{_≡_, ap}
 use lib.ListN.{take, drop}
-use Rattle.table.specs.TableLaws.{held-fits}
+use Rattle.table.proofs.TableLaws.{there-fits}
 use native.Mathlib.Omega.{arith}
 use borrow.Author.Needs.{needs}
 use Rattle.table.proofs.key_at.Statement.{statement}
@@ -11,10 +11,10 @@ add-from : tie.Need-add-from
 add-from c = search needs
 
 mul-from : tie.Need-mul-from
-mul-from c = omega (arith, held-fits (c .pre))
+mul-from c = omega (arith, there-fits (c .pre))
 
 add-to : tie.Need-add-to
-add-to c = omega (arith, held-fits (c .pre))
+add-to c = omega (arith, there-fits (c .pre))
 
 sub-result : tie.Need-sub-result
 sub-result c = search needs
@@ -23,7 +23,7 @@ part-result-start : tie.Need-part-result-start
 part-result-start c = search needs
 
 part-result-end : tie.Need-part-result-end
-part-result-end c = omega (arith, held-fits (c .pre))
+part-result-end c = omega (arith, there-fits (c .pre))
 
 returns : tie.Need-returns
 returns c =

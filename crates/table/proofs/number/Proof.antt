@@ -2,9 +2,10 @@
 use Prim.Native.Nat.{_+_, _-_, _≤_}
 use mathlib.Core.Path.{_≡_, refl, sym, ap, _∙_}
 use Rattle.table.specs.Order.{orderOf, isSame}
-use Rattle.table.specs.OrderLaws.{order-told}
-use Rattle.table.specs.Table.{keyAt, numberAt, entries, look, numberOf}
-use Rattle.table.specs.TableLaws.{held-long, entries-most, look-all, look-here, look-next, look-end}
+use Rattle.table.proofs.OrderLaws.{order-told}
+use Rattle.table.specs.Entries.{entryKey, entryNumber}
+use Rattle.table.specs.Table.{entryCount, stateNumber}
+use Rattle.table.proofs.TableLaws.{lookFrom, there-long, entries-most, look-all, look-here, look-next, look-end}
 use Rattle.table.proofs.Tags.{tag-same, tag-not-same}
 use native.Mathlib.Omega.{arith}
 use borrow.Author.Needs.{needs}
@@ -14,8 +15,8 @@ use Rattle.table.proofs.number.Tie as tie
 abbrev Inv-loop : tie.InvT-loop
 Inv-loop table m depth key count i₀ i =
     (i ≤ count)
-    × (count ≡ entries m table)
-    × (numberOf m table depth key ≡ look (keyAt m table) (numberAt m table) key (depth + 1) i (count - i))
+    × (count ≡ entryCount m table)
+    × (stateNumber m table depth key ≡ lookFrom (entryKey m table) (entryNumber m table) key (depth + 1) i (count - i))
 
 abbrev μ-loop : tie.MeasureT-loop
 μ-loop table m depth key count i₀ i = count - i
@@ -32,7 +33,7 @@ start-of-arm2 c = start-of-compare (c .before)
 
 -- the order of entry i's key and the one that is looked up
 compared : (c : tie.After-compare Inv-loop μ-loop)
-    → orderOf (keyAt (start-of-compare c .args .m) (start-of-compare c .args .table .now) (c .before .before .before .loop .i)) (start-of-compare c .args .key .now)
+    → orderOf (entryKey (start-of-compare c .args .m) (start-of-compare c .args .table .now) (c .before .before .before .loop .i)) (start-of-compare c .args .key .now)
     ≡ c .compare .result
 compared c = order-told (c .before .key-at .ensures) refl (c .compare .ensures)
 
@@ -49,7 +50,7 @@ key-at-requires : tie.Need-key-at-requires Inv-loop μ-loop
 key-at-requires c κs = search needs
 
 compare-requires : tie.Need-compare-requires Inv-loop μ-loop
-compare-requires c κs = held-long (search needs) (c .key-at .ensures) ∙ sym (c .before .before .before .before .before .pre .long)
+compare-requires c κs = there-long (search needs) (c .key-at .ensures) ∙ sym (c .before .before .before .before .before .pre .long)
 
 enum-told : tie.Need-enum-told Inv-loop μ-loop
 enum-told c = search needs

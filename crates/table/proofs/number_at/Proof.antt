@@ -1,4 +1,4 @@
-use Rattle.table.specs.TableLaws.{held-fits}
+use Rattle.table.proofs.TableLaws.{there-fits}
 use native.Mathlib.Omega.{arith}
 use borrow.Author.Needs.{needs}
 use Rattle.table.proofs.number_at.Statement.{statement}
@@ -8,13 +8,13 @@ add-at : tie.Need-add-at
 add-at c = search needs
 
 mul-at : tie.Need-mul-at
-mul-at c = omega (arith, held-fits (c .pre))
+mul-at c = omega (arith, there-fits (c .pre))
 
 add-at-2 : tie.Need-add-at-2
-add-at-2 c = omega (arith, held-fits (c .pre))
+add-at-2 c = omega (arith, there-fits (c .pre))
 
 shared-slice-read-result : tie.Need-shared-slice-read-result
-shared-slice-read-result c = omega (arith, held-fits (c .before .pre))
+shared-slice-read-result c = omega (arith, there-fits (c .before .pre))
 
 returns : tie.Need-returns
 returns c = search needs

@@ -3,16 +3,17 @@ use Prim.Native.Nat.{_-_, _≤_}
 use mathlib.Core.Path.{_≡_, refl, sym, _∙_}
 use mathlib.Core.List.{[], _∷_}
 use lib.ListN.{length, drop}
-use Rattle.ground.specs.Choice.{all, all-here, all-next, all-end}
-use Rattle.facelet_cube.specs.Cube.{faceAt, oneByte, isSolved}
-use Rattle.facelet_cube.specs.CubeLaws.{FacePart, face-part, side-small, face-shows}
+use Rattle.ground.specs.Choice.{all}
+use Rattle.ground.proofs.ChoiceLaws.{all-here, all-next, all-end}
+use Rattle.facelet_cube.specs.Cube.{faceStickers, oneByte, isSolved}
+use Rattle.facelet_cube.proofs.CubeLaws.{FacePart, face-part, side-small, face-shows}
 use native.Mathlib.Omega.{arith}
 use borrow.Author.Needs.{needs}
 use Rattle.facelet_cube.proofs.cube.all_faces_solved.Statement.{statement}
 use Rattle.facelet_cube.proofs.cube.all_faces_solved.Tie as tie
 
 abbrev Inv-loop : tie.InvT-loop
-Inv-loop n cube side k₀ k = (k ≤ 6) × (isSolved n cube ≡ all (λ f. oneByte (faceAt n f cube)) (drop k (0 ∷ 1 ∷ 2 ∷ 3 ∷ 4 ∷ 5 ∷ [])))
+Inv-loop n cube side k₀ k = (k ≤ 6) × (isSolved n cube ≡ all (λ f. oneByte (faceStickers n f cube)) (drop k (0 ∷ 1 ∷ 2 ∷ 3 ∷ 4 ∷ 5 ∷ [])))
 
 abbrev μ-loop : tie.MeasureT-loop
 μ-loop n cube side k₀ k = 6 - k
@@ -58,7 +59,7 @@ loop-again c =
     let l = c .before .before .before .before .loop in
     let h = c .before .before .before .loop-test .taken in (
       omega arith,
-      l .inv .1 ∙ all-next (λ f. oneByte (faceAt (a .n) f (a .cube .now))) (0 ∷ 1 ∷ 2 ∷ 3 ∷ 4 ∷ 5 ∷ []) (l .k) h
+      l .inv .1 ∙ all-next (λ f. oneByte (faceStickers (a .n) f (a .cube .now))) (0 ∷ 1 ∷ 2 ∷ 3 ∷ 4 ∷ 5 ∷ []) (l .k) h
           (face-shows (a .n) (l .k) (a .cube .now) h (c .before .shows-one-byte .ensures) (c .if1 .taken)),
     )
 
@@ -67,14 +68,14 @@ returns c =
     let a = c .before .before .before .before .before .before .args in
     let l = c .before .before .before .before .loop in
     let h = c .before .before .before .loop-test .taken in
-    sym (l .inv .1 ∙ all-here (λ f. oneByte (faceAt (a .n) f (a .cube .now))) (0 ∷ 1 ∷ 2 ∷ 3 ∷ 4 ∷ 5 ∷ []) (l .k) h
+    sym (l .inv .1 ∙ all-here (λ f. oneByte (faceStickers (a .n) f (a .cube .now))) (0 ∷ 1 ∷ 2 ∷ 3 ∷ 4 ∷ 5 ∷ []) (l .k) h
     (face-shows (a .n) (l .k) (a .cube .now) h (c .before .shows-one-byte .ensures) (c .if1 .left)))
 
 returns-2 : tie.Need-returns-2 Inv-loop μ-loop
 returns-2 c =
     let a = c .before .before .before .args in
     let l = c .before .loop in
-    sym (l .inv .1 ∙ all-end (λ f. oneByte (faceAt (a .n) f (a .cube .now))) (0 ∷ 1 ∷ 2 ∷ 3 ∷ 4 ∷ 5 ∷ []) (l .k) (c .loop-test .left))
+    sym (l .inv .1 ∙ all-end (λ f. oneByte (faceStickers (a .n) f (a .cube .now))) (0 ∷ 1 ∷ 2 ∷ 3 ∷ 4 ∷ 5 ∷ []) (l .k) (c .loop-test .left))
 
 pub all-faces-solved-spec : {M : Type 1} → statement M
 all-faces-solved-spec =

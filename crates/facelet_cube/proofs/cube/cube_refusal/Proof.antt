@@ -1,7 +1,8 @@
 use mathlib.Core.Path.{sym, _∙_}
 use borrow.Author.Tests.{eq-eqb, ne-eqb}
-use Rattle.generic_cube.specs.CodeLaws.{sized-bounds}
-use Rattle.sticker.specs.PlaceLaws.{room}
+use Rattle.ground.specs.Refusals.{lowest}
+use Rattle.generic_cube.proofs.CodeLaws.{sized-bounds}
+use Rattle.sticker.proofs.PlaceLaws.{room}
 use Rattle.facelet_cube.specs.Cube.{cubeRefusal}
 use native.Mathlib.Omega.{arith}
 use borrow.Author.Needs.{needs}
@@ -18,15 +19,15 @@ mul-count-2 : tie.Need-mul-count-2
 mul-count-2 c = omega (arith, room (c .before .before .args .n) (sized-bounds (c .before .before .args .n) (sym (c .before .is-size .ensures) ∙ c .if1 .taken) .1))
 
 returns : tie.Need-returns
-unfolding cubeRefusal
+unfolding cubeRefusal lowest
 returns c = simp (sym (c .before .before .is-size .ensures) ∙ c .before .if1 .taken, ne-eqb _ _ (c .if2 .taken))
 
 returns-2 : tie.Need-returns-2
-unfolding cubeRefusal
+unfolding cubeRefusal lowest
 returns-2 c = simp (sym (c .before .before .is-size .ensures) ∙ c .before .if1 .taken, eq-eqb _ _ (c .if2 .left))
 
 returns-3 : tie.Need-returns-3
-unfolding cubeRefusal
+unfolding cubeRefusal lowest
 returns-3 c = simp (sym (c .before .is-size .ensures) ∙ c .if1 .left)
 
 pub cube-refusal-spec : {M : Type 1} → statement M

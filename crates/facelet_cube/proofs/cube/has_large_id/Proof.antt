@@ -4,8 +4,9 @@ use mathlib.Core.Path.{_≡_, refl, sym, _∙_}
 use lib.Dec.{leb}
 use lib.ListN.{length, drop}
 use borrow.Author.Tests.{le-leb, lt-leb}
-use Rattle.ground.specs.Choice.{any, any-here, any-next, any-end}
-use Rattle.facelet_cube.specs.CubeLaws.{largeId}
+use Rattle.ground.specs.Choice.{any}
+use Rattle.ground.proofs.ChoiceLaws.{any-here, any-next, any-end}
+use Rattle.facelet_cube.specs.Cube.{largeId}
 use native.Mathlib.Omega.{arith}
 use Rattle.facelet_cube.proofs.cube.has_large_id.Statement.{statement}
 use Rattle.facelet_cube.proofs.cube.has_large_id.Tie as tie

@@ -1,7 +1,7 @@
 use mathlib.Core.Path.{sym, _∙_}
 use borrow.Author.Tests.{eq-eqb, ne-eqb}
 use Rattle.facelet_cube.specs.Cube.{verdict}
-use Rattle.facelet_cube.specs.CubeLaws.{whole}
+use Rattle.facelet_cube.proofs.CubeLaws.{whole-slice}
 use borrow.Author.Needs.{needs}
 use Rattle.facelet_cube.proofs.cube.is_solved.Statement.{statement}
 use Rattle.facelet_cube.proofs.cube.is_solved.Tie as tie
@@ -14,7 +14,7 @@ unfolding verdict
 returns c = simp (← (c .before .cube-refusal .ensures), ne-eqb _ _ (c .if1 .taken))
 
 all-faces-solved-requires : tie.Need-all-faces-solved-requires
-all-faces-solved-requires c κs = whole (c .before .before .before .args .n) _ (sym (c .before .cube-refusal .ensures) ∙ c .if1 .left)
+all-faces-solved-requires c κs = whole-slice (c .before .before .before .args .n) _ (sym (c .before .cube-refusal .ensures) ∙ c .if1 .left)
 
 returns-2 : tie.Need-returns-2
 unfolding verdict

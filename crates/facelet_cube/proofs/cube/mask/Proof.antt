@@ -1,6 +1,6 @@
 use mathlib.Core.Path.{sym, _∙_}
-use Rattle.generic_cube.specs.Numbers.{with-refused, with-done}
-use Rattle.facelet_cube.specs.CubeLaws.{masks}
+use Rattle.generic_cube.proofs.AnswerLaws.{with-refused, with-done}
+use Rattle.facelet_cube.proofs.CubeLaws.{masks}
 use borrow.Author.Needs.{needs}
 use Rattle.facelet_cube.proofs.cube.mask.Statement.{statement}
 use Rattle.facelet_cube.proofs.cube.mask.Tie as tie

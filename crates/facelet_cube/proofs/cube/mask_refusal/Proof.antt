@@ -1,7 +1,8 @@
 use mathlib.Core.Path.{sym, _∙_}
 use borrow.Author.Tests.{eq-eqb, ne-eqb}
-use Rattle.generic_cube.specs.CodeLaws.{sized-bounds}
-use Rattle.sticker.specs.PlaceLaws.{room}
+use Rattle.ground.specs.Refusals.{lowest}
+use Rattle.generic_cube.proofs.CodeLaws.{sized-bounds}
+use Rattle.sticker.proofs.PlaceLaws.{room}
 use Rattle.facelet_cube.specs.Cube.{maskRefusal}
 use native.Mathlib.Omega.{arith}
 use borrow.Author.Needs.{needs}
@@ -18,7 +19,7 @@ mul-count-2 : tie.Need-mul-count-2
 mul-count-2 c = omega (arith, room (c .before .before .before .args .n) (sized-bounds (c .before .before .before .args .n) (sym (c .before .is-size .ensures) ∙ c .if1 .taken) .1))
 
 returns : tie.Need-returns
-unfolding maskRefusal
+unfolding maskRefusal lowest
 returns c =
     simp (
       sym (c .before .before .is-size .ensures) ∙ c .before .if1 .taken,
@@ -26,7 +27,7 @@ returns c =
     )
 
 returns-2 : tie.Need-returns-2
-unfolding maskRefusal
+unfolding maskRefusal lowest
 returns-2 c =
     simp (
       sym (c .before .before .before .is-size .ensures) ∙ c .before .before .if1 .taken,
@@ -35,7 +36,7 @@ returns-2 c =
     )
 
 returns-3 : tie.Need-returns-3
-unfolding maskRefusal
+unfolding maskRefusal lowest
 returns-3 c =
     simp (
       sym (c .before .before .before .before .is-size .ensures) ∙ c .before .before .before .if1 .taken,
@@ -48,7 +49,7 @@ has-large-id-requires : tie.Need-has-large-id-requires
 has-large-id-requires c κs = search needs
 
 returns-4 : tie.Need-returns-4
-unfolding maskRefusal
+unfolding maskRefusal lowest
 returns-4 c =
     simp (
       sym (c .before .before .before .before .before .before .is-size .ensures) ∙ c .before .before .before .before .before .if1 .taken,
@@ -59,7 +60,7 @@ returns-4 c =
     )
 
 returns-5 : tie.Need-returns-5
-unfolding maskRefusal
+unfolding maskRefusal lowest
 returns-5 c =
     simp (
       sym (c .before .before .before .before .before .before .is-size .ensures) ∙ c .before .before .before .before .before .if1 .taken,
@@ -70,7 +71,7 @@ returns-5 c =
     )
 
 returns-6 : tie.Need-returns-6
-unfolding maskRefusal
+unfolding maskRefusal lowest
 returns-6 c = simp (sym (c .before .is-size .ensures) ∙ c .if1 .left)
 
 pub mask-refusal-spec : {M : Type 1} → statement M

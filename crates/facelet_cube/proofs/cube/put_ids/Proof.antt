@@ -2,9 +2,9 @@
 use Prim.Native.Nat.{_-_}
 use mathlib.Core.Path.{refl}
 use lib.ListN.{length, length-set}
-use Rattle.ground.specs.Loops.{Filling, fill-none, fill-more}
-use Rattle.sticker.specs.PlaceLaws.{room}
-use Rattle.facelet_cube.specs.CubeLaws.{ids-put}
+use Rattle.ground.proofs.FillLaws.{Filling, fill-none, fill-more}
+use Rattle.sticker.proofs.PlaceLaws.{room}
+use Rattle.facelet_cube.proofs.CubeLaws.{ids-put}
 use native.Mathlib.Omega.{arith}
 use Rattle.facelet_cube.proofs.cube.put_ids.Statement.{statement}
 use Rattle.facelet_cube.proofs.cube.put_ids.Tie as tie

@@ -2,10 +2,10 @@
 use Prim.Native.Nat.{_-_, _/_}
 use mathlib.Core.Path.{refl}
 use lib.ListN.{length, getD, length-set}
-use Rattle.ground.specs.Loops.{Filling, fill-none, fill-more}
-use Rattle.generic_cube.specs.Numbers.{letters}
-use Rattle.sticker.specs.PlaceLaws.{face-number}
-use Rattle.facelet_cube.specs.CubeLaws.{letters-put}
+use Rattle.ground.proofs.FillLaws.{Filling, fill-none, fill-more}
+use Rattle.generic_cube.specs.Sizes.{letters}
+use Rattle.sticker.proofs.PlaceLaws.{face-number}
+use Rattle.facelet_cube.proofs.CubeLaws.{letters-put}
 use native.Mathlib.Omega.{arith}
 use Rattle.facelet_cube.proofs.cube.put_letters.Statement.{statement}
 use Rattle.facelet_cube.proofs.cube.put_letters.Tie as tie

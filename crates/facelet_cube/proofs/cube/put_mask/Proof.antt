@@ -4,9 +4,9 @@ use native.Mathlib.Omega.{arith}
 use mathlib.Core.Path.{sym, subst}
 use mathlib.Core.Logic.{⊎-elim}
 use lib.ListN.{length, length-set}
-use Rattle.ground.specs.Loops.{Changing, change-none, change-set, change-keep}
-use Rattle.generic_cube.specs.Numbers.{stickers}
-use Rattle.facelet_cube.specs.CubeLaws.{maskAt, mask-put, mask-gone, mask-stays}
+use Rattle.ground.proofs.FillLaws.{Changing, change-none, change-set, change-keep}
+use Rattle.generic_cube.specs.Sizes.{stickers}
+use Rattle.facelet_cube.proofs.CubeLaws.{maskAt, mask-put, mask-gone, mask-stays}
 use Rattle.facelet_cube.proofs.cube.put_mask.Statement.{statement}
 use Rattle.facelet_cube.proofs.cube.put_mask.Tie as tie
 

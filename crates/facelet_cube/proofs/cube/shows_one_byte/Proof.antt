@@ -4,7 +4,8 @@ use mathlib.Core.Path.{_≡_, refl, sym, _∙_}
 use lib.Dec.{eqb}
 use lib.ListN.{length, getD, drop}
 use borrow.Author.Tests.{eq-eqb, ne-eqb}
-use Rattle.ground.specs.Choice.{all, all-here, all-next, all-end}
+use Rattle.ground.specs.Choice.{all}
+use Rattle.ground.proofs.ChoiceLaws.{all-here, all-next, all-end}
 use Rattle.facelet_cube.specs.Cube.{oneByte}
 use native.Mathlib.Omega.{arith}
 use Rattle.facelet_cube.proofs.cube.shows_one_byte.Statement.{statement}

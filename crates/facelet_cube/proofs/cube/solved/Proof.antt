@@ -1,6 +1,6 @@
 use mathlib.Core.Path.{sym, _∙_}
-use Rattle.generic_cube.specs.Numbers.{with-refused, with-done}
-use Rattle.facelet_cube.specs.CubeLaws.{whole}
+use Rattle.generic_cube.proofs.AnswerLaws.{with-refused, with-done}
+use Rattle.facelet_cube.proofs.CubeLaws.{whole-slice}
 use borrow.Author.Needs.{needs}
 use Rattle.facelet_cube.proofs.cube.solved.Statement.{statement}
 use Rattle.facelet_cube.proofs.cube.solved.Tie as tie
@@ -12,7 +12,7 @@ returns : tie.Need-returns
 returns c = with-refused (c .before .cube-refusal .ensures) (c .if1 .taken)
 
 put-letters-requires : tie.Need-put-letters-requires
-put-letters-requires c κs = whole (c .before .before .before .before .args .n) _ (sym (c .before .before .cube-refusal .ensures) ∙ c .before .if1 .left)
+put-letters-requires c κs = whole-slice (c .before .before .before .before .args .n) _ (sym (c .before .before .cube-refusal .ensures) ∙ c .before .if1 .left)
 
 same-length : tie.Need-same-length
 same-length c = search needs

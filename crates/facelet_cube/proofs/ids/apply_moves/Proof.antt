@@ -3,7 +3,7 @@ use Prim.Native.Nat.{ℕ}
 use mathlib.Core.Path.{_≡_, sym, ap, _∙_}
 use lib.ListN.{length, replicate}
 use Rattle.facelet_cube.specs.Apply.{applyRefusal}
-use Rattle.facelet_cube.specs.ApplyLaws.{good, good-cube, apply-refused, apply-done}
+use Rattle.facelet_cube.proofs.ApplyLaws.{runnable, runnable-cube, apply-refused, apply-done}
 use borrow.Author.Needs.{needs}
 use Rattle.facelet_cube.proofs.ids.apply_moves.Statement.{statement}
 use Rattle.facelet_cube.proofs.ids.apply_moves.Tie as tie
@@ -19,7 +19,7 @@ returns : tie.Need-returns
 returns c = let a = c .before .before .before .before .before .args in apply-refused (a .n) (a .cube .now) (a .work .now) (a .moves .now) (c .before .apply-refusal .ensures) (c .if1 .taken)
 
 run-moves-requires : tie.Need-run-moves-requires
-run-moves-requires c κs = let a = c .before .before .before .before .before .before .args in good-cube (good (a .n) _ (length (a .work .now)) (a .moves .now) (allowed (c .before)))
+run-moves-requires c κs = let a = c .before .before .before .before .before .before .args in runnable-cube (runnable (a .n) _ (length (a .work .now)) (a .moves .now) (allowed (c .before)))
 
 clear-requires : tie.Need-clear-requires
 clear-requires c κs = search needs
@@ -35,7 +35,7 @@ returns-2 c =
     let a = c .before .before .before .before .before .before .before .before .before .before .before .before .before .args in
     let e = allowed (c .before .before .before .before .before .before .before .before) in
     apply-done (a .n) (a .cube .now) (a .work .now) (a .moves .now) e (c .before .before .before .before .before .before .run-moves .ensures)
-    (c .before .before .clear .ensures ∙ ap (λ (k : ℕ). replicate k 0) (good (a .n) _ (length (a .work .now)) (a .moves .now) e .work-long))
+    (c .before .before .clear .ensures ∙ ap (λ (k : ℕ). replicate k 0) (runnable (a .n) _ (length (a .work .now)) (a .moves .now) e .work-long))
 
 pub apply-moves-spec : {M : Type 1} → statement M
 apply-moves-spec =

@@ -1,6 +1,6 @@
 -- `lane_of`: the numbers are small, and the corners and steps are as long as an edge's number asks.
 use Prim.Native.Nat.{_/_, _%_}
-use Rattle.facelet_cube.specs.LaneLaws.{LaneRoom, lane-room, FrameRoom, frame-room, framed-lane}
+use Rattle.facelet_cube.proofs.LaneLaws.{LaneRoom, lane-room, FrameRoom, frame-room, framed-lane}
 use native.Mathlib.Omega.{arith}
 use Rattle.facelet_cube.proofs.lanes.lane_of.Statement.{statement}
 use Rattle.facelet_cube.proofs.lanes.lane_of.Tie as tie

@@ -1,7 +1,7 @@
 -- `ring_of`: the word is the ring's, and so are the lanes.
 use mathlib.Core.Path.{refl}
-use Rattle.facelet_cube.specs.Lane.{ringLane}
-use Rattle.facelet_cube.specs.LaneLaws.{LaneRoom, lane-room, Words, words, held-lane}
+use Rattle.facelet_cube.specs.InnerLanes.{ringLane}
+use Rattle.facelet_cube.proofs.LaneLaws.{LaneRoom, lane-room, RingWords, ring-words, word-lane}
 use native.Mathlib.Omega.{arith}
 use borrow.Author.Needs.{needs}
 use Rattle.facelet_cube.proofs.lanes.ring_of.Statement.{statement}
@@ -10,8 +10,8 @@ use Rattle.facelet_cube.proofs.lanes.ring_of.Tie as tie
 sizes : (c : tie.After-ring-word) → LaneRoom (c .before .args .n) 0 0
 sizes c = lane-room (c .before .args .n) 0 0 (c .before .pre .0) (omega arith)
 
-held : (c : tie.After-ring-word) → Words (c .before .args .ring) (c .ring-word .result)
-held c = words (c .before .pre .1) (c .ring-word .ensures)
+lane-word : (c : tie.After-ring-word) → RingWords (c .before .args .ring) (c .ring-word .result)
+lane-word c = ring-words (c .before .pre .1) (c .ring-word .ensures)
 
 ring-word-requires : tie.Need-ring-word-requires
 ring-word-requires c κs = c .pre .1
@@ -38,7 +38,7 @@ slice-aggregate-lane-of-2 : tie.Need-slice-aggregate-lane-of-2
 slice-aggregate-lane-of-2 c = search needs
 
 lane-of-requires : tie.Need-lane-of-requires
-lane-of-requires c κs = let w = c .before .before in (w .before .pre .0, held w .a-held .small, record { corner-is = refl; step-is = refl })
+lane-of-requires c κs = let w = c .before .before in (w .before .pre .0, lane-word w .a-held .small, record { corner-is = refl; step-is = refl })
 
 slice-aggregate-lane-of-3 : tie.Need-slice-aggregate-lane-of-3
 slice-aggregate-lane-of-3 c = search needs
@@ -47,7 +47,7 @@ slice-aggregate-lane-of-4 : tie.Need-slice-aggregate-lane-of-4
 slice-aggregate-lane-of-4 c = search needs
 
 lane-of-requires-2 : tie.Need-lane-of-requires-2
-lane-of-requires-2 c κs = let w = c .before .before .before .before .before in (w .before .pre .0, held w .b-held .small, record { corner-is = refl; step-is = refl })
+lane-of-requires-2 c κs = let w = c .before .before .before .before .before in (w .before .pre .0, lane-word w .b-held .small, record { corner-is = refl; step-is = refl })
 
 slice-aggregate-lane-of-5 : tie.Need-slice-aggregate-lane-of-5
 slice-aggregate-lane-of-5 c = search needs
@@ -56,7 +56,7 @@ slice-aggregate-lane-of-6 : tie.Need-slice-aggregate-lane-of-6
 slice-aggregate-lane-of-6 c = search needs
 
 lane-of-requires-3 : tie.Need-lane-of-requires-3
-lane-of-requires-3 c κs = let w = c .before .before .before .before .before .before .before .before in (w .before .pre .0, held w .c-held .small, record { corner-is = refl; step-is = refl })
+lane-of-requires-3 c κs = let w = c .before .before .before .before .before .before .before .before in (w .before .pre .0, lane-word w .c-held .small, record { corner-is = refl; step-is = refl })
 
 slice-aggregate-lane-of-7 : tie.Need-slice-aggregate-lane-of-7
 slice-aggregate-lane-of-7 c = search needs
@@ -65,17 +65,17 @@ slice-aggregate-lane-of-8 : tie.Need-slice-aggregate-lane-of-8
 slice-aggregate-lane-of-8 c = search needs
 
 lane-of-requires-4 : tie.Need-lane-of-requires-4
-lane-of-requires-4 c κs = let w = c .before .before .before .before .before .before .before .before .before .before .before in (w .before .pre .0, held w .d-held .small, record { corner-is = refl; step-is = refl })
+lane-of-requires-4 c κs = let w = c .before .before .before .before .before .before .before .before .before .before .before in (w .before .pre .0, lane-word w .d-held .small, record { corner-is = refl; step-is = refl })
 
 returns : tie.Need-returns
 unfolding ringLane
 returns c =
     let w = c .before .before .before .before .before .before .before .before .before .before .before .before in
     let n = w .before .args .n in
-    let ea = held-lane n (held w .a-held) (c .before .before .before .before .before .before .before .before .before .lane-of .ensures) in
-    let eb = held-lane n (held w .b-held) (c .before .before .before .before .before .before .lane-of2 .ensures) in
-    let ec = held-lane n (held w .c-held) (c .before .before .before .lane-of3 .ensures) in
-    let ed = held-lane n (held w .d-held) (c .lane-of4 .ensures) in
+    let ea = word-lane n (lane-word w .a-held) (c .before .before .before .before .before .before .before .before .before .lane-of .ensures) in
+    let eb = word-lane n (lane-word w .b-held) (c .before .before .before .before .before .before .lane-of2 .ensures) in
+    let ec = word-lane n (lane-word w .c-held) (c .before .before .before .lane-of3 .ensures) in
+    let ed = word-lane n (lane-word w .d-held) (c .lane-of4 .ensures) in
     λ i. record { a = ea i; b = eb i; c = ec i; d = ed i }
 
 pub ring-of-spec : {M : Type 1} → statement M

@@ -2,8 +2,8 @@
 use Prim.Native.Nat.{_-_}
 use mathlib.Core.Path.{sym, subst}
 use lib.ListN.{length, length-set}
-use Rattle.facelet_cube.specs.Lane.{CellFits}
-use Rattle.facelet_cube.specs.LaneLaws.{Reads, reads, LineDone, line-none, line-long, line-more, line-all}
+use Rattle.facelet_cube.specs.InnerLanes.{CellFits}
+use Rattle.facelet_cube.proofs.LaneLaws.{Reads, reads, LineDone, line-none, line-long, line-more, line-all}
 use native.Mathlib.Omega.{arith}
 use borrow.Author.Needs.{needs}
 use Rattle.facelet_cube.proofs.letters.cycle_line.Statement.{statement}

@@ -1,5 +1,5 @@
 use borrow.Author.Tests.{eq-eqb, ne-eqb}
-use Rattle.facelet_cube.specs.Lane.{prior}
+use Rattle.facelet_cube.specs.InnerLanes.{prior}
 use Rattle.facelet_cube.proofs.letters.prior.Statement.{statement}
 use Rattle.facelet_cube.proofs.letters.prior.Tie as tie
 

@@ -2,8 +2,9 @@
 use Prim.Native.Nat.{_-_}
 use mathlib.Core.Path.{_≡_, sym, _∙_}
 use lib.ListN.{length, getD}
-use Rattle.facelet_cube.specs.ApplyLaws.{Running, run-none, run-more, run-all}
-use Rattle.generic_cube.specs.CodeLaws.{Fair, list-taken, list-reads}
+use Rattle.facelet_cube.proofs.ApplyLaws.{Running, runs-none, runs-more, runs-all}
+use Rattle.generic_cube.specs.Inner.{Fair}
+use Rattle.generic_cube.proofs.CodeLaws.{list-taken, list-reads}
 use Rattle.generic_cube.specs.Code.{moveOf}
 use native.Mathlib.Omega.{arith}
 use borrow.Author.Needs.{needs}
@@ -27,7 +28,7 @@ read c =
     (sym (c .before .m .given .1) ∙ c .before .before .before .read-code .ensures)
 
 loop-holds : tie.Need-loop-holds Inv-loop μ-loop
-loop-holds c = run-none (c .before .before .pre .cube-long)
+loop-holds c = runs-none (c .before .before .pre .cube-long)
 
 mul-read-code : tie.Need-mul-read-code Inv-loop μ-loop
 mul-read-code c = omega arith
@@ -66,13 +67,13 @@ loop-less c = omega arith
 
 loop-again : tie.Need-loop-again Inv-loop μ-loop
 loop-again c =
-    run-more (c .before .before .before .before .before .before .before .before .before .before .loop .inv) (c .before .before .before .before .before .before .before .before .before .loop-test .taken) (read (c .before .before .before .before) .0) (c .before .before .apply-move .ensures)
+    runs-more (c .before .before .before .before .before .before .before .before .before .before .loop .inv) (c .before .before .before .before .before .before .before .before .before .loop-test .taken) (read (c .before .before .before .before) .0) (c .before .before .apply-move .ensures)
 
 same-length-2 : tie.Need-same-length-2 Inv-loop μ-loop
 same-length-2 c = c .before .loop .inv .cube-long ∙ sym (c .before .before .before .before .pre .cube-long)
 
 returns-2 : tie.Need-returns-2 Inv-loop μ-loop
-returns-2 c = run-all (c .before .loop .inv) (c .loop-test .left)
+returns-2 c = runs-all (c .before .loop .inv) (c .loop-test .left)
 
 pub run-moves-spec : {M : Type 1} → statement M
 run-moves-spec =

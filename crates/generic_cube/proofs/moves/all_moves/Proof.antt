@@ -2,11 +2,12 @@
 use mathlib.Core.Path.{_≡_, refl, sym, _∙_}
 use native.Mathlib.Omega.{arith}
 use lib.ListN.{length}
-use borrow.Author.Tests.{ne-eqb}
 use borrow.Author.Needs.{needs}
 use Rattle.ground.specs.Choice.{any}
-use Rattle.generic_cube.specs.AllMoves.{upFrom, allRefusal, allOut}
-use Rattle.generic_cube.specs.AllMovesLaws.{kinds-fair, faces-next, all-room, all-stored}
+use Rattle.ground.specs.Lists.{upFrom}
+use Rattle.generic_cube.specs.AllMoves.{allRefusal}
+use Rattle.generic_cube.proofs.AllMovesLaws.{kinds-fair, faces-next, all-room, all-stored}
+use Rattle.generic_cube.proofs.AnswerLaws.{answer-refused}
 use Rattle.generic_cube.proofs.moves.all_moves.Statement.{statement}
 use Rattle.generic_cube.proofs.moves.all_moves.Tie as tie
 
@@ -18,12 +19,7 @@ all-refusal-requires : tie.Need-all-refusal-requires
 all-refusal-requires c κs = search needs
 
 returns : tie.Need-returns
-unfolding allOut
-returns c =
-    record {
-      answered = simp (← (c .before .all-refusal .ensures), ne-eqb _ _ (c .if1 .taken));
-      written = simp (← (c .before .all-refusal .ensures), ne-eqb _ _ (c .if1 .taken));
-    }
+returns c = answer-refused (c .before .all-refusal .ensures) (c .if1 .taken)
 
 slice-aggregate-put-kinds : tie.Need-slice-aggregate-put-kinds
 slice-aggregate-put-kinds c = search needs
@@ -33,11 +29,6 @@ unfolding any
 put-kinds-requires c κs =
     let r = all-room _ _ (good (c .before .before)) in
     (omega arith, omega arith, kinds-fair _ refl refl)
-
-cast-half : tie.Need-cast-half
-cast-half c =
-    let r = all-room _ _ (good (c .before .before .before .before .before)) in
-    omega arith
 
 slice-aggregate-put-kinds-2 : tie.Need-slice-aggregate-put-kinds-2
 slice-aggregate-put-kinds-2 c = search needs
@@ -67,7 +58,6 @@ all-moves-spec =
     returns
     slice-aggregate-put-kinds
     put-kinds-requires
-    cast-half
     slice-aggregate-put-kinds-2
     put-kinds-requires-2
     same-length

@@ -1,17 +1,18 @@
 -- `put_kinds`: the first i kinds are stored.
-use Prim.Native.Nat.{_-_, _+_, _*_}
+use Prim.Native.Nat.{_-_, _*_}
 use mathlib.Core.Path.{refl, ap, _∙_}
-use mathlib.Core.List.{[], _∷_}
 use lib.ListN.{length}
-use Rattle.generic_cube.specs.AllMoves.{upFrom, each, movesOf}
-use Rattle.generic_cube.specs.AllMovesLaws.{Looped, loop-none, loop-more, loop-all, loop-room, put-length, length-from, length-turns}
+use Rattle.ground.specs.Lists.{upFrom}
+use Rattle.generic_cube.specs.AllMoves.{turnsOf, movesOf}
+use Rattle.ground.proofs.PutLaws.{Looped, loop-none, loop-more, loop-all, loop-room, put-length, length-from}
+use Rattle.generic_cube.proofs.AllMovesLaws.{length-turns}
 use native.Mathlib.Omega.{arith}
 use Rattle.generic_cube.proofs.moves.put_kinds.Statement.{statement}
 use Rattle.generic_cube.proofs.moves.put_kinds.Tie as tie
 
 abbrev Inv-loop : tie.InvT-loop
 Inv-loop out₀ start kinds first count at₀ i₀ out at i =
-    Looped out₀ start kinds (λ k. each (1 ∷ 2 ∷ 3 ∷ []) (λ t. each (upFrom first count) (λ w. (w * 64 + k * 4 + t) ∷ []))) i out at
+    Looped out₀ start kinds (turnsOf (upFrom first count)) i out at
 
 abbrev μ-loop : tie.MeasureT-loop
 μ-loop out₀ start kinds first count at₀ i₀ out at i = length kinds - i

@@ -1,16 +1,18 @@
 -- `put_turns`: the first i turns are stored.
-use Prim.Native.Nat.{_-_, _+_, _*_}
+use Prim.Native.Nat.{_-_}
 use mathlib.Core.Path.{sym, _∙_}
 use mathlib.Core.List.{[], _∷_}
-use Rattle.generic_cube.specs.AllMoves.{upFrom, each}
-use Rattle.generic_cube.specs.AllMovesLaws.{Looped, loop-none, loop-more, loop-all, loop-room, put-length, length-from, length-widths, turn-at}
+use Rattle.ground.specs.Lists.{upFrom}
+use Rattle.generic_cube.specs.AllMoves.{widthsOf}
+use Rattle.ground.proofs.PutLaws.{Looped, loop-none, loop-more, loop-all, loop-room, put-length, length-from}
+use Rattle.generic_cube.proofs.AllMovesLaws.{length-widths, turn-at}
 use native.Mathlib.Omega.{arith}
 use Rattle.generic_cube.proofs.moves.put_turns.Statement.{statement}
 use Rattle.generic_cube.proofs.moves.put_turns.Tie as tie
 
 abbrev Inv-loop : tie.InvT-loop
 Inv-loop out₀ start kind first count at₀ i₀ out at i =
-    Looped out₀ start (1 ∷ 2 ∷ 3 ∷ []) (λ t. each (upFrom first count) (λ w. (w * 64 + kind * 4 + t) ∷ [])) i out at
+    Looped out₀ start (1 ∷ 2 ∷ 3 ∷ []) (widthsOf (upFrom first count) kind) i out at
 
 abbrev μ-loop : tie.MeasureT-loop
 μ-loop out₀ start kind first count at₀ i₀ out at i = 3 - i

@@ -2,8 +2,9 @@
 use Prim.Native.Nat.{_-_, _+_, _≤_}
 use mathlib.Core.Path.{_≡_}
 use lib.ListN.{drop}
-use Rattle.ground.specs.Choice.{position, position-here, position-next, position-end}
-use Rattle.generic_cube.specs.Numbers.{letters}
+use Rattle.ground.specs.Choice.{position}
+use Rattle.ground.proofs.ChoiceLaws.{position-here, position-next, position-end}
+use Rattle.generic_cube.specs.Sizes.{letters}
 use native.Mathlib.Omega.{arith}
 use Rattle.generic_cube.proofs.stickers.face_number.Statement.{statement}
 use Rattle.generic_cube.proofs.stickers.face_number.Tie as tie

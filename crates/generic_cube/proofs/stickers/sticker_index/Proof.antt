@@ -1,7 +1,7 @@
 use mathlib.Core.Path.{sym, _∙_}
 use borrow.Author.Tests.{eq-eqb, ne-eqb}
 use Rattle.generic_cube.specs.StickerIndex.{stickerIndex}
-use Rattle.generic_cube.specs.StickerLaws.{Near, near}
+use Rattle.generic_cube.proofs.StickerLaws.{Near, near}
 use native.Mathlib.Omega.{arith}
 use borrow.Author.Needs.{needs}
 use Rattle.generic_cube.proofs.stickers.sticker_index.Statement.{statement}

@@ -1,7 +1,7 @@
 use mathlib.Core.Path.{ap, _∙_}
-use Rattle.sticker.specs.Place.{found}
+use Rattle.sticker.specs.Inner.{foundAt}
 use Rattle.geometric_moves.specs.Turn.{turnedBy}
-use Rattle.geometric_moves.specs.TurnLaws.{may-turn, may-find}
+use Rattle.geometric_moves.proofs.TurnLaws.{may-turn, may-find}
 use borrow.Author.Needs.{needs}
 use Rattle.geometric_moves.proofs.GeometricMove.target.Statement.{statement}
 use Rattle.geometric_moves.proofs.GeometricMove.target.Tie as tie
@@ -18,7 +18,7 @@ index-of-requires c κs = may-find (c .before .before .args .j) (c .before .befo
 returns : tie.Need-returns
 returns c =
     let a = c .before .before .before .args in
-    c .index-of .ensures ∙ ap (found (a .n)) (c .before .turn .ensures ∙ ap (turnedBy (a .n) (a .self)) (c .before .before .place-of .ensures))
+    c .index-of .ensures ∙ ap (foundAt (a .n)) (c .before .turn .ensures ∙ ap (turnedBy (a .n) (a .self)) (c .before .before .place-of .ensures))
 
 pub target-spec : {M : Type 1} → statement M
 target-spec = tie.close (tie.spec place-of-requires turn-requires index-of-requires returns)

@@ -1,4 +1,4 @@
-use Rattle.geometric_moves.specs.RotationLaws.{rot-eq}
+use Rattle.geometric_moves.proofs.RotationLaws.{rot-eq}
 use borrow.Author.Needs.{needs}
 use Rattle.geometric_moves.proofs.Rotation.and_then.Statement.{statement}
 use Rattle.geometric_moves.proofs.Rotation.and_then.Tie as tie

@@ -1,4 +1,4 @@
-use Rattle.sticker.specs.PlaceLaws.{pos-eq}
+use Rattle.sticker.proofs.PlaceLaws.{pos-eq}
 use borrow.Author.Needs.{needs}
 use Rattle.geometric_moves.proofs.Rotation.apply.Statement.{statement}
 use Rattle.geometric_moves.proofs.Rotation.apply.Tie as tie

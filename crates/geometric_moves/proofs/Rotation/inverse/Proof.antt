@@ -1,5 +1,5 @@
 use Rattle.geometric_moves.specs.Turn.{inverseRot}
-use Rattle.geometric_moves.specs.RotationLaws.{rot-eq}
+use Rattle.geometric_moves.proofs.RotationLaws.{rot-eq}
 use borrow.Author.Needs.{needs}
 use Rattle.geometric_moves.proofs.Rotation.inverse.Statement.{statement}
 use Rattle.geometric_moves.proofs.Rotation.inverse.Tie as tie

@@ -4,7 +4,7 @@ use native.Mathlib.Omega.{arith}
 use Prim.Native.Nat.{_-_}
 use mathlib.Core.Path.{_≡_, refl, sym, _∙_}
 use lib.ListN.{length, getD}
-use Rattle.ground.specs.Loops.{Filling, fill-none, fill-more, copied}
+use Rattle.ground.proofs.FillLaws.{Filling, fill-none, fill-more, copied}
 use Rattle.ground.proofs.bytes.block.Statement.{statement}
 use Rattle.ground.proofs.bytes.block.Tie as tie
 

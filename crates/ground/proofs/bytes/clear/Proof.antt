@@ -2,7 +2,7 @@
 use Prim.Native.Nat.{_-_}
 use mathlib.Core.Path.{refl}
 use lib.ListN.{length, length-set}
-use Rattle.ground.specs.Loops.{Filling, fill-none, fill-more, cleared}
+use Rattle.ground.proofs.FillLaws.{Filling, fill-none, fill-more, cleared}
 use native.Mathlib.Omega.{arith}
 use Rattle.ground.proofs.bytes.clear.Statement.{statement}
 use Rattle.ground.proofs.bytes.clear.Tie as tie

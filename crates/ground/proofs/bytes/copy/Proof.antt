@@ -4,7 +4,8 @@ use native.Mathlib.Omega.{arith}
 use Prim.Native.Nat.{_+_, _-_}
 use mathlib.Core.Path.{_≡_, sym, _∙_}
 use lib.ListN.{length}
-use Rattle.ground.specs.Loops.{Copying, copy-none, copy-less, copy-all}
+use Rattle.ground.specs.Inner.{Copying}
+use Rattle.ground.proofs.CopyLaws.{copy-none, copy-less, copy-all}
 use Rattle.ground.proofs.bytes.copy.Statement.{statement}
 use Rattle.ground.proofs.bytes.copy.Tie as tie
 

@@ -1,7 +1,7 @@
 -- `copy_block`: the block follows what was copied.
 use native.Mathlib.Omega.{arith}
 use mathlib.Core.Path.{_∙_}
-use Rattle.ground.specs.Loops.{copy-part}
+use Rattle.ground.proofs.CopyLaws.{copy-part}
 use borrow.Author.Needs.{needs}
 use Rattle.ground.proofs.bytes.copy_block.Statement.{statement}
 use Rattle.ground.proofs.bytes.copy_block.Tie as tie

@@ -2,7 +2,7 @@
 use Prim.Native.Nat.{_-_}
 use mathlib.Core.Path.{refl}
 use lib.ListN.{length, length-set, getD}
-use Rattle.ground.specs.Loops.{Filling, fill-none, fill-more, copied}
+use Rattle.ground.proofs.FillLaws.{Filling, fill-none, fill-more, copied}
 use native.Mathlib.Omega.{arith}
 use Rattle.ground.proofs.bytes.copy_short.Statement.{statement}
 use Rattle.ground.proofs.bytes.copy_short.Tie as tie

@@ -4,7 +4,7 @@ use native.Mathlib.Omega.{arith}
 use Prim.Native.Nat.{_-_}
 use mathlib.Core.Path.{refl}
 use lib.ListN.{getD}
-use Rattle.ground.specs.Loops.{Filling, fill-none, fill-more, copied}
+use Rattle.ground.proofs.FillLaws.{Filling, fill-none, fill-more, copied}
 use Rattle.ground.proofs.bytes.put_block.Statement.{statement}
 use Rattle.ground.proofs.bytes.put_block.Tie as tie
 

@@ -1,21 +1,24 @@
-use mathlib.Core.Path.{refl}
+use mathlib.Core.Path.{_∙_}
+use native.Mathlib.Omega.{arith}
+use Rattle.generic_cube.specs.Code.{turnedTo}
+use Rattle.generic_cube.proofs.CodeLaws.{turn-most}
 use Rattle.scramble_parser.specs.Lists.{inverseOf}
 use borrow.Author.Needs.{needs}
 use Rattle.scramble_parser.proofs.lists.inverse_code.Statement.{statement}
 use Rattle.scramble_parser.proofs.lists.inverse_code.Tie as tie
 
-mul-result : tie.Need-mul-result
-mul-result c = search needs
+turn-of-requires : tie.Need-turn-of-requires
+turn-of-requires c κs = search needs
 
-sub-result : tie.Need-sub-result
-sub-result c = search needs
+sub-with-turn : tie.Need-sub-with-turn
+sub-with-turn c = omega (arith, turn-most (c .before .args .code), c .turn-of .ensures)
 
-add-result : tie.Need-add-result
-add-result c = search needs
+with-turn-requires : tie.Need-with-turn-requires
+with-turn-requires c κs = omega (arith, turn-most (c .before .args .code), c .turn-of .ensures, c .before .pre)
 
 returns : tie.Need-returns
-unfolding inverseOf
-returns c = refl
+unfolding inverseOf turnedTo
+returns c = c .with-turn .ensures ∙ rw (c .before .turn-of .ensures)
 
 pub inverse-code-spec : {M : Type 1} → statement M
-inverse-code-spec = tie.close (tie.spec mul-result sub-result add-result returns)
+inverse-code-spec = tie.close (tie.spec turn-of-requires sub-with-turn with-turn-requires returns)

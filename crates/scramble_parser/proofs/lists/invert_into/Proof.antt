@@ -4,9 +4,9 @@ use mathlib.Core.Path.{refl, sym, ap, _∙_}
 use mathlib.Core.List.{[], _∷_}
 use lib.ListN.{length}
 use lib.Seq.{sets}
-use Rattle.generic_cube.specs.AllMovesLaws.{Looped, loop-none, loop-more, loop-all, put-one, put-length, each-self}
+use Rattle.ground.proofs.PutLaws.{Looped, loop-none, loop-more, loop-all, put-one, put-length, each-self}
 use Rattle.scramble_parser.specs.Lists.{inverse}
-use Rattle.scramble_parser.specs.ListLaws.{turned-at, length-inverse, getD-inverse}
+use Rattle.scramble_parser.proofs.ListLaws.{turned-at, length-inverse, getD-inverse}
 use native.Mathlib.Omega.{arith}
 use Rattle.scramble_parser.proofs.lists.invert_into.Statement.{statement}
 use Rattle.scramble_parser.proofs.lists.invert_into.Tie as tie

@@ -1,9 +1,9 @@
 -- `invert_moves`: stored in order, where nothing is refused.
 use mathlib.Core.Path.{_≡_, sym, _∙_}
 use lib.ListN.{length}
-use Rattle.scramble_parser.specs.Room.{clear}
 use Rattle.scramble_parser.specs.Lists.{sameRefusal}
-use Rattle.scramble_parser.specs.ListLaws.{clear-turned, invert-refused, inverted}
+use Rattle.scramble_parser.proofs.ListLaws.{fitting, fitting-turned, invert-done}
+use Rattle.generic_cube.proofs.AnswerLaws.{answer-refused}
 use borrow.Author.Needs.{needs}
 use Rattle.scramble_parser.proofs.lists.invert_moves.Statement.{statement}
 use Rattle.scramble_parser.proofs.lists.invert_moves.Tie as tie
@@ -16,16 +16,16 @@ same-refusal-requires : tie.Need-same-refusal-requires
 same-refusal-requires c κs = search needs
 
 returns : tie.Need-returns
-returns c = invert-refused (c .before .same-refusal .ensures) (c .if1 .taken)
+returns c = answer-refused (c .before .same-refusal .ensures) (c .if1 .taken)
 
 invert-into-requires : tie.Need-invert-into-requires
-invert-into-requires c κs = (clear _ _ _ _ (good (c .before)) .fits, clear-turned _ _ _ (good (c .before)))
+invert-into-requires c κs = let g = fitting _ _ _ (good (c .before)) in (g .fits, fitting-turned g)
 
 same-length : tie.Need-same-length
 same-length c = search needs
 
 returns-2 : tie.Need-returns-2
-returns-2 c = inverted (good (c .before .before .before .before)) (c .before .before .invert-into .ensures)
+returns-2 c = invert-done _ _ (good (c .before .before .before .before)) (c .before .before .invert-into .ensures)
 
 pub invert-moves-spec : {M : Type 1} → statement M
 invert-moves-spec =

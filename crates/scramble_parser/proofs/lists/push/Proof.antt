@@ -1,5 +1,10 @@
-use borrow.Author.Tests.{eq-eqb, ne-eqb}
-use Rattle.scramble_parser.specs.SimplifyLaws.{pushed-first, pushed-other, pushed-gone, pushed-joined}
+use borrow.Author.Tests.{not-true, not-false}
+use lib.ListN.{getD}
+use mathlib.Core.Path.{sym, _∙_}
+use Prim.Native.Nat.{_-_}
+use native.Mathlib.Omega.{arith}
+use Rattle.generic_cube.proofs.CodeLaws.{turn-most}
+use Rattle.scramble_parser.proofs.SimplifyLaws.{pushed-first, pushed-other, pushed-gone, pushed-joined}
 use borrow.Author.Needs.{needs}
 use Rattle.scramble_parser.proofs.lists.push.Statement.{statement}
 use Rattle.scramble_parser.proofs.lists.push.Tie as tie
@@ -17,7 +22,7 @@ same-length : tie.Need-same-length
 same-length c = search needs
 
 returns : tie.Need-returns
-returns c = pushed-first (c .before .pre) (c .if1 .taken)
+returns c = pushed-first (c .before .before .pre) (c .if1 .taken)
 
 sub-top : tie.Need-sub-top
 sub-top c = search needs
@@ -27,6 +32,9 @@ mul-top c = search needs
 
 slice-read-top : tie.Need-slice-read-top
 slice-read-top c = search needs
+
+do-join-requires : tie.Need-do-join-requires
+do-join-requires c κs = search needs
 
 mul-out-2 : tie.Need-mul-out-2
 mul-out-2 c = search needs
@@ -41,28 +49,31 @@ same-length-2 : tie.Need-same-length-2
 same-length-2 c = search needs
 
 returns-2 : tie.Need-returns-2
-returns-2 c = pushed-other (c .before .before .before .pre) (c .before .before .if1 .left) (ne-eqb _ _ (c .if2 .taken))
+returns-2 c = pushed-other (c .before .before .before .before .before .pre) (c .before .before .before .if1 .left) (sym (c .before .do-join .ensures) ∙ not-true _ (c .if2 .taken))
+
+turn-of-requires : tie.Need-turn-of-requires
+turn-of-requires c κs = search needs
+
+turn-of-requires-2 : tie.Need-turn-of-requires-2
+turn-of-requires-2 c κs = search needs
 
 add-turn : tie.Need-add-turn
-add-turn c = search needs
+add-turn c = let a = c .before .before .before .before .before .before .before .args in omega (arith, turn-most (getD (a .out .now) (a .k - 1) 0), turn-most (a .code), c .before .turn-of .ensures, c .turn-of2 .ensures)
 
 sub-result : tie.Need-sub-result
 sub-result c = search needs
 
 returns-3 : tie.Need-returns-3
-returns-3 c = pushed-gone (c .before .before .before .before .pre) (c .before .before .before .if1 .left) (eq-eqb _ _ (c .before .if2 .left)) (c .if3 .taken)
+returns-3 c = pushed-gone (c .before .before .before .before .before .before .before .before .pre) (c .before .before .before .before .before .before .if1 .left) (sym (c .before .before .before .before .do-join .ensures) ∙ not-false _ (c .before .before .before .if2 .left)) (rw (c .before .before .turn-of .ensures, c .before .turn-of2 .ensures) at (c .if3 .taken))
 
-mul-out-3 : tie.Need-mul-out-3
-mul-out-3 c = search needs
-
-add-out : tie.Need-add-out
-add-out c = search needs
+with-turn-requires : tie.Need-with-turn-requires
+with-turn-requires c κs = omega arith
 
 sub-out : tie.Need-sub-out
 sub-out c = search needs
 
-mul-out-4 : tie.Need-mul-out-4
-mul-out-4 c = search needs
+mul-out-3 : tie.Need-mul-out-3
+mul-out-3 c = search needs
 
 slice-write-out-3 : tie.Need-slice-write-out-3
 slice-write-out-3 c = search needs
@@ -71,7 +82,8 @@ same-length-3 : tie.Need-same-length-3
 same-length-3 c = search needs
 
 returns-4 : tie.Need-returns-4
-returns-4 c = pushed-joined (c .before .before .before .before .pre) (c .before .before .before .if1 .left) (eq-eqb _ _ (c .before .if2 .left)) (c .if3 .left)
+returns-4 c = pushed-joined (c .before .before .before .before .before .before .before .before .before .pre) (c .before .before .before .before .before .before .before .if1 .left) (sym (c .before .before .before .before .before .do-join .ensures) ∙ not-false _ (c .before .before .before .before .if2 .left)) (rw (c .before .before .before .turn-of .ensures, c .before .before .turn-of2 .ensures) at (c .before .if3 .left))
+    (c .with-turn .ensures ∙ rw (c .before .before .before .turn-of .ensures, c .before .before .turn-of2 .ensures))
 
 pub push-spec : {M : Type 1} → statement M
 push-spec =
@@ -85,18 +97,20 @@ push-spec =
     sub-top
     mul-top
     slice-read-top
+    do-join-requires
     mul-out-2
     slice-write-out-2
     add-result-2
     same-length-2
     returns-2
+    turn-of-requires
+    turn-of-requires-2
     add-turn
     sub-result
     returns-3
-    mul-out-3
-    add-out
+    with-turn-requires
     sub-out
-    mul-out-4
+    mul-out-3
     slice-write-out-3
     same-length-3
     returns-4)

@@ -1,6 +1,8 @@
-use mathlib.Core.Path.{sym, _∙_}
-use borrow.Author.Tests.{eq-eqb, ne-eqb, lt-ltb, le-ltb}
-use Rattle.scramble_parser.specs.Room.{fillRefusal}
+use mathlib.Core.Path.{refl, sym, _∙_}
+use lib.ListN.{length}
+use Rattle.generic_cube.specs.Code.{listRows, listRefusal}
+use Rattle.scramble_parser.specs.Lists.{sameRefusal}
+use Rattle.scramble_parser.proofs.ListLaws.{fill-size, fill-list, fill-short, fill-fits}
 use borrow.Author.Needs.{needs}
 use Rattle.scramble_parser.proofs.lists.same_refusal.Statement.{statement}
 use Rattle.scramble_parser.proofs.lists.same_refusal.Tie as tie
@@ -12,22 +14,22 @@ list-refusal-requires : tie.Need-list-refusal-requires
 list-refusal-requires c κs = search needs
 
 returns : tie.Need-returns
-unfolding fillRefusal
-returns c = simp (sym (c .before .before .before .is-size .ensures) ∙ c .before .before .if1 .taken, ← (c .before .list-refusal .ensures), ne-eqb _ _ (c .if2 .taken))
+unfolding sameRefusal listRefusal
+returns c = let a = c .before .before .before .before .before .args in fill-list _ (length (a .list .now)) (a .room) (listRows (a .n) (a .list .now)) (sym (c .before .before .before .is-size .ensures) ∙ c .before .before .if1 .taken) (c .before .list-refusal .ensures) (c .if2 .taken)
 
 returns-2 : tie.Need-returns-2
-unfolding fillRefusal
+unfolding sameRefusal listRefusal
 returns-2 c =
-    simp (sym (c .before .before .before .before .is-size .ensures) ∙ c .before .before .before .if1 .taken, ← (c .before .before .list-refusal .ensures), eq-eqb _ _ (c .before .if2 .left), lt-ltb _ _ (c .if3 .taken))
+    let a = c .before .before .before .before .before .before .args in fill-short _ (length (a .list .now)) (a .room) (listRows (a .n) (a .list .now)) (sym (c .before .before .before .before .is-size .ensures) ∙ c .before .before .before .if1 .taken) (c .before .before .list-refusal .ensures) refl (c .before .if2 .left) (c .if3 .taken)
 
 returns-3 : tie.Need-returns-3
-unfolding fillRefusal
+unfolding sameRefusal listRefusal
 returns-3 c =
-    simp (sym (c .before .before .before .before .is-size .ensures) ∙ c .before .before .before .if1 .taken, ← (c .before .before .list-refusal .ensures), eq-eqb _ _ (c .before .if2 .left), le-ltb _ _ (c .if3 .left))
+    let a = c .before .before .before .before .before .before .args in fill-fits _ (length (a .list .now)) (a .room) (listRows (a .n) (a .list .now)) (sym (c .before .before .before .before .is-size .ensures) ∙ c .before .before .before .if1 .taken) (c .before .before .list-refusal .ensures) refl (c .before .if2 .left) (c .if3 .left)
 
 returns-4 : tie.Need-returns-4
-unfolding fillRefusal
-returns-4 c = simp (sym (c .before .is-size .ensures) ∙ c .if1 .left)
+unfolding sameRefusal listRefusal
+returns-4 c = let a = c .before .before .before .args in fill-size _ (length (a .list .now)) (a .room) (listRows (a .n) (a .list .now)) (sym (c .before .is-size .ensures) ∙ c .if1 .left)
 
 pub same-refusal-spec : {M : Type 1} → statement M
 same-refusal-spec =

@@ -1,9 +1,9 @@
 -- `simplify_moves`: the stack, then zeros up to the input's length.
 use mathlib.Core.Path.{_≡_, sym, _∙_}
 use lib.ListN.{length}
-use Rattle.scramble_parser.specs.Room.{clear}
 use Rattle.scramble_parser.specs.Lists.{sameRefusal}
-use Rattle.scramble_parser.specs.ListLaws.{clear-turned, simplify-refused, simplified}
+use Rattle.scramble_parser.proofs.ListLaws.{fitting, fitting-turned, simplify-done}
+use Rattle.generic_cube.proofs.AnswerLaws.{answer-refused}
 use borrow.Author.Needs.{needs}
 use Rattle.scramble_parser.proofs.lists.simplify_moves.Statement.{statement}
 use Rattle.scramble_parser.proofs.lists.simplify_moves.Tie as tie
@@ -16,10 +16,10 @@ same-refusal-requires : tie.Need-same-refusal-requires
 same-refusal-requires c κs = search needs
 
 returns : tie.Need-returns
-returns c = simplify-refused (c .before .same-refusal .ensures) (c .if1 .taken)
+returns c = answer-refused (c .before .same-refusal .ensures) (c .if1 .taken)
 
 stack-requires : tie.Need-stack-requires
-stack-requires c κs = (clear _ _ _ _ (good (c .before)) .fits, clear-turned _ _ _ (good (c .before)))
+stack-requires c κs = let g = fitting _ _ _ (good (c .before)) in (g .fits, fitting-turned g)
 
 mul-clear : tie.Need-mul-clear
 mul-clear c = search needs
@@ -31,7 +31,7 @@ part-clear-start : tie.Need-part-clear-start
 part-clear-start c = search needs
 
 part-clear-end : tie.Need-part-clear-end
-part-clear-end c = rw (c .before .before .stack .kept .1 .0) (clear _ _ _ _ (good (c .before .before .before .before)) .fits)
+part-clear-end c = rw (c .before .before .stack .kept .1 .0) (fitting _ _ _ (good (c .before .before .before .before)) .fits)
 
 clear-requires : tie.Need-clear-requires
 clear-requires c κs = search needs
@@ -40,7 +40,7 @@ same-length : tie.Need-same-length
 same-length c = search needs
 
 returns-2 : tie.Need-returns-2
-returns-2 c = simplified (good (c .before .before .before .before .before .before .before .before)) (c .before .before .before .before .before .before .stack .kept .1 .0) (c .before .before .before .before .before .before .stack .ensures) (c .before .before .clear .ensures)
+returns-2 c = simplify-done _ (good (c .before .before .before .before .before .before .before .before)) (c .before .before .before .before .before .before .stack .kept .1 .0) (c .before .before .before .before .before .before .stack .ensures) (c .before .before .clear .ensures)
 
 pub simplify-moves-spec : {M : Type 1} → statement M
 simplify-moves-spec =

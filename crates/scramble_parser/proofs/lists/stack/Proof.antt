@@ -1,7 +1,7 @@
 -- `stack`: the first i codes are on the stack.
 use Prim.Native.Nat.{_-_}
 use lib.ListN.{length}
-use Rattle.scramble_parser.specs.SimplifyLaws.{Stacked, stack-none, stack-asks, stack-more, stack-all}
+use Rattle.scramble_parser.proofs.SimplifyLaws.{Stacked, stack-none, stack-asks, stack-more, stack-all}
 use native.Mathlib.Omega.{arith}
 use Rattle.scramble_parser.proofs.lists.stack.Statement.{statement}
 use Rattle.scramble_parser.proofs.lists.stack.Tie as tie

@@ -1,4 +1,4 @@
-use borrow.Author.Tests.{lt-ltb, le-ltb}
+use Rattle.ground.proofs.ChoiceLaws.{under-between, over-between, bounds-between}
 use Rattle.scramble_parser.specs.Token.{digitOf}
 use native.Mathlib.Omega.{arith}
 use borrow.Author.Needs.{needs}
@@ -10,11 +10,11 @@ at-requires c κs = search needs
 
 returns : tie.Need-returns
 unfolding digitOf
-returns c = (simp (← (c .before .at .ensures), lt-ltb _ _ (c .if1 .taken)), omega arith)
+returns c = (simp (← (c .before .at .ensures), under-between 48 57 _ (c .if1 .taken)), omega arith)
 
 returns-2 : tie.Need-returns-2
 unfolding digitOf
-returns-2 c = (simp (← (c .before .before .at .ensures), le-ltb _ _ (c .before .if1 .left), lt-ltb _ _ (c .if2 .taken)), omega arith)
+returns-2 c = (simp (← (c .before .before .at .ensures), over-between 48 57 _ (c .before .if1 .left) (c .if2 .taken)), omega arith)
 
 cast-result : tie.Need-cast-result
 cast-result c = search needs
@@ -24,7 +24,7 @@ sub-result c = search needs
 
 returns-3 : tie.Need-returns-3
 unfolding digitOf
-returns-3 c = (simp (← (c .before .before .at .ensures), le-ltb _ _ (c .before .if1 .left), le-ltb _ _ (c .if2 .left)), omega arith)
+returns-3 c = (simp (← (c .before .before .at .ensures), bounds-between 48 57 _ (c .before .if1 .left) (c .if2 .left)), omega arith)
 
 pub digit-at-spec : {M : Type 1} → statement M
 digit-at-spec = tie.close (tie.spec at-requires returns returns-2 cast-result sub-result returns-3)

@@ -1,7 +1,7 @@
 -- `letter`: each way out is the case of `letterBy` that its tests choose.
 use Prim.Native.Nat.{_<_}
 use borrow.Author.Tests.{lt-ltb, le-ltb, le-leb, lt-leb, eq-eqb, ne-eqb}
-use Rattle.scramble_parser.specs.TokenLaws.{facePlaces, packedAt, letterBy, letter-by}
+use Rattle.scramble_parser.proofs.TokenLaws.{facePlaces, packedAt, letterBy, letter-by}
 use native.Mathlib.Omega.{arith}
 use borrow.Author.Needs.{needs}
 use Rattle.scramble_parser.proofs.tokens.letter.Statement.{statement}

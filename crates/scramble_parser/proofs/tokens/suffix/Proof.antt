@@ -1,6 +1,6 @@
-use borrow.Author.Tests.{eq-eqb, ne-eqb}
+use mathlib.Core.Path.{_≡_, ap, _∙_}
 use Rattle.scramble_parser.specs.Token.{markOf}
-use native.Mathlib.Omega.{arith}
+use Rattle.scramble_parser.proofs.TokenLaws.{mark-eq}
 use borrow.Author.Needs.{needs}
 use Rattle.scramble_parser.proofs.tokens.suffix.Statement.{statement}
 use Rattle.scramble_parser.proofs.tokens.suffix.Tie as tie
@@ -8,17 +8,20 @@ use Rattle.scramble_parser.proofs.tokens.suffix.Tie as tie
 at-requires : tie.Need-at-requires
 at-requires c κs = search needs
 
+mark-size-requires : tie.Need-mark-size-requires
+mark-size-requires c κs = search needs
+
+at-requires-2 : tie.Need-at-requires-2
+at-requires-2 c κs = search needs
+
+mark-turn-requires : tie.Need-mark-turn-requires
+mark-turn-requires c κs = search needs
+
 returns : tie.Need-returns
-unfolding markOf
-returns c = (simp (← (c .before .at .ensures), eq-eqb _ _ (c .if1 .taken)), omega arith, omega arith)
-
-returns-2 : tie.Need-returns-2
-unfolding markOf
-returns-2 c = (simp (← (c .before .before .at .ensures), ne-eqb _ _ (c .before .if1 .left), eq-eqb _ _ (c .if2 .taken)), omega arith, omega arith)
-
-returns-3 : tie.Need-returns-3
-unfolding markOf
-returns-3 c = (simp (← (c .before .before .at .ensures), ne-eqb _ _ (c .before .if1 .left), ne-eqb _ _ (c .if2 .left)), omega arith, omega arith)
+returns c =
+    let sized = c .before .before .mark-size .ensures in
+    let turned = c .mark-turn .ensures in
+    (mark-eq _ _ (turned .0 ∙ ap (λ b. markOf b .turn) (c .before .at2 .ensures)) (sized .0 ∙ ap (λ b. markOf b .size) (c .before .before .before .at .ensures)), turned .1, sized .1)
 
 pub suffix-spec : {M : Type 1} → statement M
-suffix-spec = tie.close (tie.spec at-requires returns returns-2 returns-3)
+suffix-spec = tie.close (tie.spec at-requires mark-size-requires at-requires-2 mark-turn-requires returns)

@@ -1,4 +1,4 @@
-use Rattle.scramble_parser.specs.ParseLaws.{skip-found, skip-end}
+use Rattle.scramble_parser.proofs.WordLaws.{skip-found, skip-end}
 use borrow.Author.Needs.{needs}
 use Rattle.scramble_parser.proofs.words.next_word.Statement.{statement}
 use Rattle.scramble_parser.proofs.words.next_word.Tie as tie
@@ -13,7 +13,7 @@ returns : tie.Need-returns
 returns c = skip-found (c .before .before .skip .ensures) (c .word-end .ensures)
 
 returns-2 : tie.Need-returns-2
-returns-2 c = skip-end (c .before .skip .ensures) (c .if1 .left)
+returns-2 c = skip-end _ (c .before .skip .ensures) (c .if1 .left)
 
 pub next-word-spec : {M : Type 1} → statement M
 next-word-spec = tie.close (tie.spec skip-requires word-end-requires returns returns-2)

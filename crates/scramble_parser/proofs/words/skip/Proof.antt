@@ -1,7 +1,7 @@
 use Prim.Native.Nat.{_-_}
 use mathlib.Core.Path.{sym, _∙_}
 use lib.ListN.{length}
-use Rattle.scramble_parser.specs.ParseLaws.{Skipping, skip-none, skip-more, skip-stop, skip-all}
+use Rattle.scramble_parser.proofs.WordLaws.{Skipping, skip-none, skip-more, skip-stop, skip-all}
 use native.Mathlib.Omega.{arith}
 use borrow.Author.Needs.{needs}
 use Rattle.scramble_parser.proofs.words.skip.Statement.{statement}

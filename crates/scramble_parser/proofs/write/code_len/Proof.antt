@@ -1,7 +1,7 @@
 use native.Mathlib.Omega.{arith}
 use mathlib.Core.Path.{sym, ap, _∙_}
 use lib.ListN.{length}
-use Rattle.scramble_parser.specs.WriteLaws.{taken-text, refused-text}
+use Rattle.scramble_parser.proofs.WriteLaws.{taken-text, refused-text}
 use borrow.Author.Needs.{needs}
 use Rattle.scramble_parser.proofs.write.code_len.Statement.{statement}
 use Rattle.scramble_parser.proofs.write.code_len.Tie as tie

@@ -1,6 +1,6 @@
 use mathlib.Core.Path.{ap, sym}
 use lib.ListN.{length}
-use Rattle.scramble_parser.specs.WriteLaws.{mark-none, mark-half, mark-back}
+use Rattle.scramble_parser.proofs.WriteLaws.{mark-none, mark-half, mark-back}
 use native.Mathlib.Omega.{arith}
 use Rattle.scramble_parser.proofs.write.mark_len.Statement.{statement}
 use Rattle.scramble_parser.proofs.write.mark_len.Tie as tie

@@ -1,7 +1,7 @@
 use native.Mathlib.Omega.{arith}
-use Rattle.generic_cube.specs.AllMovesLaws.{put-none}
+use Rattle.ground.proofs.PutLaws.{put-none}
 use mathlib.Core.Path.{sym, _∙_}
-use Rattle.scramble_parser.specs.WriteLaws.{taken-text, taken-fits, refused-text}
+use Rattle.scramble_parser.proofs.WriteLaws.{taken-text, taken-fits, refused-text}
 use borrow.Author.Needs.{needs}
 use Rattle.scramble_parser.proofs.write.put_code.Statement.{statement}
 use Rattle.scramble_parser.proofs.write.put_code.Tie as tie

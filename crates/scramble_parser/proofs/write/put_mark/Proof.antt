@@ -1,8 +1,8 @@
-use Rattle.generic_cube.specs.AllMovesLaws.{put-none}
+use Rattle.ground.proofs.PutLaws.{put-none}
 use mathlib.Core.Path.{_≡_}
 use mathlib.Core.List.{[], _∷_}
 use Rattle.scramble_parser.specs.Write.{markText}
-use Rattle.scramble_parser.specs.WriteLaws.{mark-none, mark-half, mark-back}
+use Rattle.scramble_parser.proofs.WriteLaws.{mark-none, mark-half, mark-back}
 use borrow.Author.Needs.{needs}
 use Rattle.scramble_parser.proofs.write.put_mark.Statement.{statement}
 use Rattle.scramble_parser.proofs.write.put_mark.Tie as tie

@@ -3,7 +3,7 @@ use Prim.Native.Nat.{_+_, _-_, _≤_}
 use mathlib.Core.Path.{refl}
 use mathlib.Core.List.{_∷_}
 use lib.ListN.{length, getD}
-use Rattle.generic_cube.specs.AllMovesLaws.{Looped, loop-none, loop-more, loop-all, loop-fits, put-then, put-length, put-room}
+use Rattle.ground.proofs.PutLaws.{Looped, loop-none, loop-more, loop-all, loop-fits, put-then, put-length, put-room}
 use Rattle.scramble_parser.specs.Write.{textOf, restText}
 use native.Mathlib.Omega.{arith}
 use Rattle.scramble_parser.proofs.write.put_rest.Statement.{statement}

@@ -3,8 +3,8 @@ use Prim.Native.Nat.{_+_, _≤_}
 use lib.ListN.{length, getD}
 use Rattle.scramble_parser.specs.Write.{textOf, restText, listText}
 use native.Mathlib.Omega.{arith}
-use Rattle.generic_cube.specs.AllMovesLaws.{put-room}
-use Rattle.scramble_parser.specs.WriteLaws.{tail, text-length, put-empty, put-text}
+use Rattle.ground.proofs.PutLaws.{put-room}
+use Rattle.scramble_parser.proofs.WriteLaws.{tail, text-length, put-empty, put-text}
 use borrow.Author.Needs.{needs}
 use Rattle.scramble_parser.proofs.write.put_text.Statement.{statement}
 use Rattle.scramble_parser.proofs.write.put_text.Tie as tie

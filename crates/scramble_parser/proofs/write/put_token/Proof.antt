@@ -1,5 +1,6 @@
 use native.Mathlib.Omega.{arith}
-use Rattle.generic_cube.specs.AllMovesLaws.{Put, put-room}
+use Rattle.ground.specs.Inner.{Put}
+use Rattle.ground.proofs.PutLaws.{put-room}
 use Prim.Native.Nat.{ℕ, _+_, _≤_}
 use mathlib.Core.Path.{_≡_, _∙_}
 use mathlib.Core.Bool.{true, false}
@@ -8,7 +9,7 @@ use lib.ListN.{length}
 use Rattle.generic_cube.specs.Code.{isWide}
 use Rattle.scramble_parser.specs.Write.{kindByte, markText, widthText}
 use mathlib.Core.Path.{sym}
-use Rattle.scramble_parser.specs.WriteLaws.{wide-length, plain-length, put-wide, put-plain}
+use Rattle.scramble_parser.proofs.WriteLaws.{wide-length, plain-length, put-wide, put-plain}
 use borrow.Author.Needs.{needs}
 use Rattle.scramble_parser.proofs.write.put_token.Statement.{statement}
 use Rattle.scramble_parser.proofs.write.put_token.Tie as tie

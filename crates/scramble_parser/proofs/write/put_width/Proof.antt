@@ -1,10 +1,10 @@
 use native.Mathlib.Omega.{arith}
-use Rattle.generic_cube.specs.AllMovesLaws.{put-none, put-then, put-room}
+use Rattle.ground.proofs.PutLaws.{put-none, put-then, put-room}
 use Prim.Native.Nat.{_+_, _/_, _%_}
 use mathlib.Core.Path.{_≡_}
 use mathlib.Core.List.{[], _∷_}
 use Rattle.scramble_parser.specs.Write.{widthText}
-use Rattle.scramble_parser.specs.WriteLaws.{width-none, width-one, width-two, width-three}
+use Rattle.scramble_parser.proofs.WriteLaws.{width-none, width-one, width-two, width-three}
 use borrow.Author.Needs.{needs}
 use Rattle.scramble_parser.proofs.write.put_width.Statement.{statement}
 use Rattle.scramble_parser.proofs.write.put_width.Tie as tie

@@ -2,7 +2,7 @@
 use Prim.Native.Nat.{_-_}
 use mathlib.Core.Path.{sym}
 use lib.ListN.{length}
-use Rattle.scramble_parser.specs.WriteLaws.{Left, left-none, left-more, left-short, left-all}
+use Rattle.scramble_parser.proofs.WriteLaws.{Left, left-none, left-more, left-short, left-all}
 use native.Mathlib.Omega.{arith}
 use borrow.Author.Needs.{needs}
 use Rattle.scramble_parser.proofs.write.rest_fits.Statement.{statement}

@@ -1,5 +1,5 @@
 use mathlib.Core.Path.{sym, _∙_}
-use Rattle.scramble_parser.specs.WriteLaws.{fits-empty, fits-short, fits-rest}
+use Rattle.scramble_parser.proofs.WriteLaws.{fits-empty, fits-short, fits-rest}
 use borrow.Author.Needs.{needs}
 use Rattle.scramble_parser.proofs.write.text_fits.Statement.{statement}
 use Rattle.scramble_parser.proofs.write.text_fits.Tie as tie

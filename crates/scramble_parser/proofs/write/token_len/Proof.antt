@@ -1,6 +1,6 @@
 use native.Mathlib.Omega.{arith}
 use mathlib.Core.Path.{sym, _∙_}
-use Rattle.scramble_parser.specs.WriteLaws.{wide-length, plain-length}
+use Rattle.scramble_parser.proofs.WriteLaws.{wide-length, plain-length}
 use borrow.Author.Needs.{needs}
 use Rattle.scramble_parser.proofs.write.token_len.Statement.{statement}
 use Rattle.scramble_parser.proofs.write.token_len.Tie as tie

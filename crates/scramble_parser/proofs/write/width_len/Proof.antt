@@ -1,6 +1,6 @@
 use mathlib.Core.Path.{ap, sym}
 use lib.ListN.{length}
-use Rattle.scramble_parser.specs.WriteLaws.{width-none, width-one, width-two, width-three}
+use Rattle.scramble_parser.proofs.WriteLaws.{width-none, width-one, width-two, width-three}
 use native.Mathlib.Omega.{arith}
 use Rattle.scramble_parser.proofs.write.width_len.Statement.{statement}
 use Rattle.scramble_parser.proofs.write.width_len.Tie as tie

@@ -1,9 +1,10 @@
-use Prim.Native.Nat.{_<_, _≤_}
+use Prim.Native.Nat.{_-_, _<_, _≤_}
 use lib.ListN.{length}
-use mathlib.Core.Path.{sym, _∙_}
-use borrow.Author.Tests.{eq-eqb, ne-eqb, lt-ltb, le-ltb, leb-true, leb-false}
-use Rattle.generic_cube.specs.CodeLaws.{sized-bounds}
-use Rattle.scramble_parser.specs.Room.{fillRefusal}
+use mathlib.Core.Path.{refl, sym, _∙_}
+use borrow.Author.Tests.{leb-true, leb-false}
+use Rattle.generic_cube.proofs.CodeLaws.{sized-bounds}
+use Rattle.generic_cube.specs.Code.{rowsIn, refusalIn}
+use Rattle.scramble_parser.proofs.ListLaws.{fill-size, fill-list, fill-short, fill-fits}
 use Rattle.scramble_parser.specs.Write.{listText, writeRefusal}
 use borrow.Author.Needs.{needs}
 use Rattle.scramble_parser.proofs.write.write_refusal.Statement.{statement}
@@ -25,25 +26,25 @@ refusal-in-requires : tie.Need-refusal-in-requires
 refusal-in-requires c κs = search needs
 
 returns : tie.Need-returns
-unfolding writeRefusal fillRefusal
-returns c = simp (sym (c .before .before .before .is-size .ensures) ∙ c .before .before .if1 .taken, ← (c .before .refusal-in .ensures), ne-eqb _ _ (c .if2 .taken))
+unfolding writeRefusal refusalIn
+returns c = let a = c .before .before .before .before .before .args in fill-list _ (length (listText (a .list .now))) (a .room) (rowsIn 2 (a .n - 1) (a .list .now)) (sym (c .before .before .before .is-size .ensures) ∙ c .before .before .if1 .taken) (c .before .refusal-in .ensures) (c .if2 .taken)
 
 text-fits-requires : tie.Need-text-fits-requires
 text-fits-requires c κs = search needs
 
 returns-2 : tie.Need-returns-2
-unfolding writeRefusal fillRefusal
+unfolding writeRefusal refusalIn
 returns-2 c =
-    simp (sym (c .before .before .before .before .before .is-size .ensures) ∙ c .before .before .before .before .if1 .taken, ← (c .before .before .before .refusal-in .ensures), eq-eqb _ _ (c .before .before .if2 .left), le-ltb _ _ (fits c))
+    let a = c .before .before .before .before .before .before .before .args in fill-fits _ (length (listText (a .list .now))) (a .room) (rowsIn 2 (a .n - 1) (a .list .now)) (sym (c .before .before .before .before .before .is-size .ensures) ∙ c .before .before .before .before .if1 .taken) (c .before .before .before .refusal-in .ensures) refl (c .before .before .if2 .left) (fits c)
 
 returns-3 : tie.Need-returns-3
-unfolding writeRefusal fillRefusal
+unfolding writeRefusal refusalIn
 returns-3 c =
-    simp (sym (c .before .before .before .before .before .is-size .ensures) ∙ c .before .before .before .before .if1 .taken, ← (c .before .before .before .refusal-in .ensures), eq-eqb _ _ (c .before .before .if2 .left), lt-ltb _ _ (short c))
+    let a = c .before .before .before .before .before .before .before .args in fill-short _ (length (listText (a .list .now))) (a .room) (rowsIn 2 (a .n - 1) (a .list .now)) (sym (c .before .before .before .before .before .is-size .ensures) ∙ c .before .before .before .before .if1 .taken) (c .before .before .before .refusal-in .ensures) refl (c .before .before .if2 .left) (short c)
 
 returns-4 : tie.Need-returns-4
-unfolding writeRefusal fillRefusal
-returns-4 c = simp (sym (c .before .is-size .ensures) ∙ c .if1 .left)
+unfolding writeRefusal refusalIn
+returns-4 c = let a = c .before .before .before .args in fill-size _ (length (listText (a .list .now))) (a .room) (rowsIn 2 (a .n - 1) (a .list .now)) (sym (c .before .is-size .ensures) ∙ c .if1 .left)
 
 pub write-refusal-spec : {M : Type 1} → statement M
 write-refusal-spec =

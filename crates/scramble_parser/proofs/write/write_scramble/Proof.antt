@@ -2,7 +2,8 @@
 use mathlib.Core.Path.{_≡_, sym, _∙_}
 use lib.ListN.{length}
 use Rattle.scramble_parser.specs.Write.{writeRefusal}
-use Rattle.scramble_parser.specs.WriteLaws.{write-refused, write-fits, written}
+use Rattle.scramble_parser.proofs.WriteLaws.{write-fits, write-done}
+use Rattle.generic_cube.proofs.AnswerLaws.{answer-refused}
 use borrow.Author.Needs.{needs}
 use Rattle.scramble_parser.proofs.write.write_scramble.Statement.{statement}
 use Rattle.scramble_parser.proofs.write.write_scramble.Tie as tie
@@ -15,16 +16,16 @@ write-refusal-requires : tie.Need-write-refusal-requires
 write-refusal-requires c κs = search needs
 
 returns : tie.Need-returns
-returns c = write-refused (c .before .write-refusal .ensures) (c .if1 .taken)
+returns c = answer-refused (c .before .write-refusal .ensures) (c .if1 .taken)
 
 put-text-requires : tie.Need-put-text-requires
-put-text-requires c κs = write-fits _ _ _ (good (c .before))
+put-text-requires c κs = write-fits _ _ _ (good (c .before)) .fits
 
 same-length : tie.Need-same-length
 same-length c = search needs
 
 returns-2 : tie.Need-returns-2
-returns-2 c = written (good (c .before .before .before .before)) (c .before .before .put-text .ensures)
+returns-2 c = write-done _ _ (good (c .before .before .before .before)) (c .before .before .put-text .ensures)
 
 pub write-scramble-spec : {M : Type 1} → statement M
 write-scramble-spec =

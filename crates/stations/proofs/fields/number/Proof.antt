@@ -1,11 +1,13 @@
 use Prim.Native.Nat.{_-_, _≤_}
+use mathlib.Core.Path.{_≡_}
+use lib.ListN.{length, length-set}
+use native.Mathlib.Omega.{arith}
 use borrow.Author.Needs.{needs}
-use lib.ListN.{length}
 use Rattle.stations.proofs.fields.number.Statement.{statement}
 use Rattle.stations.proofs.fields.number.Tie as tie
 
 abbrev Inv-loop : tie.InvT-loop
-Inv-loop word x₀ i₀ x i = (i ≤ length word) × (x ≤ 65535)
+Inv-loop word x₀ i₀ x i = (i ≤ length word) × (x ≤ 1048575)
 
 abbrev μ-loop : tie.MeasureT-loop
 μ-loop word x₀ i₀ x i = length word - i

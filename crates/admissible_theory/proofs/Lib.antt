@@ -1,0 +1,3 @@
+pub mod BestLaws
+pub mod LevelsLaws
+pub mod AdmissibleLaws

@@ -1,3 +1,0 @@
-pub mod Program
-pub mod ProgramLaws
-pub mod WriteLaws

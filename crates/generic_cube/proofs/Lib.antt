@@ -1,0 +1,4 @@
+pub mod AnswerLaws
+pub mod CodeLaws
+pub mod AllMovesLaws
+pub mod StickerLaws

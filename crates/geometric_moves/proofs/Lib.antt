@@ -1,0 +1,4 @@
+pub mod FaceLaws
+pub mod RotationLaws
+pub mod TurnLaws
+pub mod MovedLaws

@@ -1,0 +1,3 @@
+pub mod VisitLaws
+pub mod PassesLaws
+pub mod IdaStarLaws

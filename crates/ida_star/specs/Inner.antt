@@ -1,0 +1,98 @@
+-- Inner contracts: what the functions inside the search ask of their arguments and tell of their answers.
+use Prim.Native.Nat.{ℕ, _+_, _≤_}
+use mathlib.Core.Path.{_≡_}
+use mathlib.Core.Bool.{true, false, not}
+use lib.Dec.{ltb}
+use Rattle.ground.specs.Refusals.{_when_, lowest}
+use Rattle.geometric_moves.specs.Turn.{listOff}
+use mathlib.Core.List.{List, [], _∷_, _++_}
+use lib.ListN.{length, take, drop}
+use Rattle.generic_cube.specs.Sizes.{stickers}
+use Rattle.generic_cube.specs.Code.{moveOf, badCode, listRefusal}
+use Rattle.generic_cube.specs.Inner.{Fair}
+use Rattle.table.specs.Table.{wellFormed}
+use Rattle.search_theory.specs.Search.{Reply, none, found, Task, dfs}
+use Rattle.ida_star.specs.declared.Outcome.{Outcome}
+use Rattle.ida_star.specs.declared.Path.{Path}
+use Rattle.ida_star.specs.declared.Answer.{Answer}
+use Rattle.ida_star.specs.IdaStar.{levels, outcomeOf, outputOf}
+
+-- the list that a path holds
+abbrev pub pathMoves : Path → List ℕ
+pathMoves p = take (p .len) (p .moves)
+
+-- a path of 20 slots, so many of them free
+pub record Roomy (p : Path) (free : ℕ) : Type 0 where
+  pub slots : length (p .moves) ≡ 20
+  pub most : p .len + free ≤ 20
+
+-- a path with one move more
+pub record Longer (p : Path) (c : ℕ) (q : Path) : Type 0 where
+  pub slots : length (q .moves) ≡ 20
+  pub count : q .len ≡ p .len + 1
+  pub holds : pathMoves q ≡ pathMoves p ++ (c ∷ [])
+
+-- what every visit is given: a size, a table and its depth, and candidates, none of which is refused
+pub record Given (n : ℕ) (table : List ℕ) (depth : ℕ) (moves : List ℕ) : Type 0 where
+  pub some : 1 ≤ n
+  pub size : n ≤ 7
+  pub shallow : depth ≤ 20
+  pub formed : wellFormed (stickers n) table ≡ true
+  pub listed : listRefusal n moves ≡ 0
+
+-- levels of s bytes: the first stays, the second becomes what f makes of the first, and the rest stay
+abbrev pub next : ℕ → (List ℕ → List ℕ) → List ℕ → List ℕ
+next s f work = take s work ++ (f (take s work) ++ drop (s + s) work)
+
+-- a code that turns a cube of that size, and room for the next level's cube behind this level's
+pub record TurnRoom (n c work : ℕ) : Type 0 where
+  pub some : 1 ≤ n
+  pub size : n ≤ 7
+  pub code : badCode (moveOf c) ≡ false
+  pub fair : Fair n (moveOf c)
+  pub room : stickers n + stickers n ≤ work
+
+-- a visit: a cube for each level left, and slots for the moves left
+pub record VisitReady (n : ℕ) (table : List ℕ) (depth : ℕ) (moves : List ℕ) (work : ℕ) (p : Path) (left : ℕ) : Type 0 where
+  pub given : Given n table depth moves
+  pub room : levels n left ≤ work
+  pub path : Roomy p left
+
+-- a list was found
+pub record AnswerHit (reply : Reply) (a : Answer) : Type 0 where
+  pub is : reply ≡ found (pathMoves (a .path))
+  pub path : Roomy (a .path) 0
+
+-- what an answer tells
+pub record AnswerTold (reply : Reply) (a : Answer) : Type 0 where
+  pub missed : a .found ≡ false → reply ≡ none
+  pub hit : a .found ≡ true → AnswerHit reply a
+
+-- what a visit tells, and that it leaves its own level's cube
+pub record VisitTold (t : Task) (s left : ℕ) (p : Path) (work work′ : List ℕ) (a : Answer) : Type 0 where
+  pub told : AnswerTold (dfs t left (pathMoves p) (take s work)) a
+  pub kept : take s work′ ≡ take s work
+
+-- a pass: the cube, and a level for each move left and one more
+pub record Starting (n : ℕ) (cube table : List ℕ) (depth : ℕ) (moves : List ℕ) (left work : ℕ) : Type 0 where
+  pub given : Given n table depth moves
+  pub whole : length cube ≡ stickers n
+  pub low : left ≤ 20
+  pub room : levels n left ≤ work
+
+-- the answer of the passes, and what they leave in the output
+pub record PassesTold (reply : Reply) (out out′ : List ℕ) (r : Outcome) : Type 0 where
+  pub answered : r ≡ outcomeOf reply
+  pub written : out′ ≡ outputOf reply out
+
+-- what is known once the refusals below 8 are past
+pub record Late (n : ℕ) (moves : List ℕ) (limit : ℕ) : Type 0 where
+  pub some : 1 ≤ n
+  pub size : n ≤ 7
+  pub low : limit ≤ 20
+  pub listed : listRefusal n moves ≡ 0
+
+-- refusals 8, 9 and 11: the table, the work area and the turns
+unfoldable pub lateRefusal : ℕ → List ℕ → List ℕ → ℕ → ℕ → ℕ
+lateRefusal n table moves limit work =
+    lowest (8 when not (wellFormed (stickers n) table) ∷ 9 when ltb work (levels n limit) ∷ 11 when listOff n moves ∷ [])

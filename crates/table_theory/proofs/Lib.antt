@@ -1,0 +1,5 @@
+pub mod AddLaws
+pub mod CountLaws
+pub mod RisingLaws
+pub mod ExactLaws
+pub mod MemberLaws

@@ -1,0 +1,17 @@
+pub mod BuildingLaws
+pub mod CaseLaws
+pub mod EffectLaws
+pub mod GrammarLaws
+pub mod FaultLaws
+pub mod InverseLaws
+pub mod OneAnswerLaws
+pub mod OnlyULaws
+pub mod PieceMapLaws
+pub mod RoundTripLaws
+pub mod SearchingLaws
+pub mod SignedLaws
+pub mod SimplifiedLaws
+pub mod TakenLaws
+pub mod WriterLaws
+pub mod BytesLaws
+pub mod BoundaryLaws
