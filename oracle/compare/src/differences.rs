@@ -1,5 +1,6 @@
 //! Where the crate and the rules part: for each line of docs/DIFFERENCES.md its smallest input, what the crate answers and what is answered here.
 use compare::crate_side::{code, codes, ids, letters, mv, mvs};
+use cubesim::prelude::open::{ida_star, PruningTable, Solver};
 use cubesim::prelude::{Cube, FaceletCube};
 use cubesim_proved::Refusal;
 use std::panic::catch_unwind;
@@ -85,7 +86,45 @@ fn moving() -> usize {
     assert_eq!(cubesim_proved::sticker_index(3, b'X', 1), Err(Refusal::Index));
     assert_eq!(cubesim::sticker_index(3, cubesim::Face::F, 10), 27);
     assert_eq!(cubesim_proved::sticker_index(3, b'F', 10), Err(Refusal::Index));
-    6
+    assert_eq!(cubesim::sticker_index(3, cubesim::Face::F, 0), 17);
+    assert_eq!(cubesim_proved::sticker_index(3, b'F', 0), Err(Refusal::Index));
+    assert_eq!(cubesim::sticker_index(3, cubesim::Face::U, 0), -1);
+    assert_eq!(cubesim_proved::sticker_index(3, b'U', 0), Err(Refusal::Index));
+    8
+}
+
+fn ours_table(n: usize, moves: &[u16], depth: usize) -> Result<usize, Refusal> {
+    let mut start = vec![0u8; 6 * n * n];
+    cubesim_proved::solved(n, &mut start)?;
+    cubesim_proved::pruning_table(n, &start, moves, depth, &mut vec![0u8; 8 * (6 * n * n + 1)])
+}
+
+/// A search from the solved cube with a table of it alone.
+fn ours_search(n: usize, moves: &[u16], depth: usize, limit: usize) -> Result<Option<usize>, Refusal> {
+    let mut table = vec![0u8; 6 * n * n + 1];
+    cubesim_proved::solved(n, &mut table[..6 * n * n])?;
+    let (mut work, mut out) = (vec![0u8; (limit + 1) * 6 * n * n], vec![0u16; limit]);
+    cubesim_proved::ida_star(n, &table[..6 * n * n], &table, depth, moves, limit, &mut work, &mut out)
+}
+
+fn crate_search(n: i32, moves: &[u16], depth: i32, limit: i32) -> Option<Vec<u16>> {
+    let cube = FaceletCube::new(n);
+    let table = PruningTable::of_entries(&[(cube.state(), 0)], depth);
+    ida_star(&cube, &Solver::new(mvs(moves), table), limit).map(|l| codes(&l))
+}
+
+/// Bounds of tables and of the search that the crate has not: a size above 7, more than 255 candidates, a depth or a limit above 20.
+fn bounds() -> usize {
+    let crate_table = |n, moves: &[u16], depth| PruningTable::new(&[FaceletCube::new(n)], depth, &mvs(moves)).entries().len();
+    let many = [1u16; 256];
+    assert_eq!((crate_table(8, &[], 0), ours_table(8, &[], 0)), (1, Err(Refusal::Size)));
+    assert_eq!((crate_search(8, &[], 0, 0), ours_search(8, &[], 0, 0)), (Some(vec![]), Err(Refusal::Size)));
+    assert_eq!((crate_table(1, &many, 1), ours_table(1, &many, 1)), (2, Err(Refusal::Bounds)));
+    assert_eq!((crate_search(1, &many, 1, 0), ours_search(1, &many, 1, 0)), (Some(vec![]), Err(Refusal::Bounds)));
+    assert_eq!((crate_table(1, &[1], 21), ours_table(1, &[1], 21)), (4, Err(Refusal::Bounds)));
+    assert_eq!((crate_search(1, &[1], 21, 0), ours_search(1, &[1], 21, 0)), (Some(vec![]), Err(Refusal::Bounds)));
+    assert_eq!((crate_search(1, &[1], 1, 21), ours_search(1, &[1], 1, 21)), (Some(vec![]), Err(Refusal::Bounds)));
+    7
 }
 
 /// Neighbours of one kind and two widths join there, under the first width.
@@ -101,7 +140,7 @@ fn lists() -> usize {
 
 pub fn all() -> usize {
     std::panic::set_hook(Box::new(|_| ()));
-    let shown = notation() + moving() + lists();
+    let shown = notation() + moving() + bounds() + lists();
     let _ = std::panic::take_hook();
     shown
 }

@@ -1,6 +1,6 @@
-//! A second reading of document 01's grammar, and the domain on which the crate's reader agrees with it.
+//! A second reading of the grammar in docs/RULES.md, and the domain on which the crate's reader agrees with it.
 
-/// A token read by document 01's sentences: its code, or the number of its refusal.
+/// A token read by the rules' sentences: its code, or the number of its refusal.
 fn token(n: usize, t: &[u8]) -> Result<u16, u8> {
     let digits = t.iter().take_while(|b| b.is_ascii_digit()).count();
     let rest = &t[digits..];

@@ -1,4 +1,4 @@
-//! Inputs inside document 01's domain of equality, and what the crate makes of those of tables and searches.
+//! Inputs inside the rules' domain of equality, and what the crate makes of those of tables and searches.
 use crate::crate_side::{codes, faces, letters, mvs, LETTERS};
 use crate::rng::Rng;
 use cubesim::prelude::open::{ida_star, PruningTable, Solver};

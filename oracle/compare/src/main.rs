@@ -1,4 +1,4 @@
-//! Holds the proved library against the crate, on document 01's domain, and shows each known difference outside it.
+//! Holds the proved library against the crate, on the rules' domain, and shows each known difference outside it.
 //!
 //!   compare [--large] [SEED]     ends with status 1 at the first difference, with the smallest input found
 //!                                --large: also the table of 621,649 entries

@@ -1,5 +1,6 @@
-//! Writes the list of the crate's answers that `stations` replays, a record a line, to standard output, and the counts to standard error.
+//! Writes records of the crate's answers that `stations` replays, a record a line, to standard output, and the counts to standard error.
 //! Every answer is the crate's, or (write_scramble, invert_moves, which the crate lacks) is read back or undone by it; the library is not called.
+//! What a record says besides, of lent slices and counts, is the rules' (crates/stations/RECORDS.md).
 //!
 //!   replay [SEED]
 use compare::crate_side::{code, codes, face, faces, ids, letters, mvs};
@@ -17,20 +18,62 @@ fn words<T: ToString>(xs: &[T]) -> String {
     xs.iter().map(T::to_string).collect::<Vec<_>>().join(" ")
 }
 
+/// Runs of equal elements, each with its length.
+fn runs<T: PartialEq + Copy>(xs: &[T]) -> Vec<(T, usize)> {
+    let mut out: Vec<(T, usize)> = Vec::new();
+    for x in xs {
+        match out.last_mut() {
+            Some((last, count)) if last == x => *count += 1,
+            _ => out.push((*x, 1)),
+        }
+    }
+    out
+}
+
+/// Bytes as a record spells them: itself, `#v;`, or `#vxk;` for k of them.
+fn bytes(bs: &[u8]) -> String {
+    let one = |b: u8, k: usize| match b {
+        b'|' | b'=' | b'#' | 0..=31 | 127..=255 if k == 1 => format!("#{b};"),
+        b'|' | b'=' | b'#' | 0..=31 | 127..=255 => format!("#{b}x{k};"),
+        _ => (b as char).to_string().repeat(k),
+    };
+    runs(bs).into_iter().map(|(b, k)| one(b, k)).collect()
+}
+
+/// Numbers as a record spells them: `v`, or `vxk` for more than two of them.
+fn numbers(xs: &[u16]) -> String {
+    let one = |(v, k): (u16, usize)| if k > 2 { vec![format!("{v}x{k}")] } else { vec![v.to_string(); k] };
+    runs(xs).into_iter().flat_map(one).collect::<Vec<_>>().join(" ")
+}
+
+/// What is lent before a call: sevens, and nines.
+fn sevens(count: usize) -> Vec<u8> {
+    vec![7; count]
+}
+
+fn nines(count: usize) -> Vec<u16> {
+    vec![9; count]
+}
+
+/// A list over the front of a lent slice that has some room to spare.
+fn over<T: Copy>(list: &[T], lent: &[T]) -> Vec<T> {
+    [list, &lent[list.len()..]].concat()
+}
+
 fn text(bytes: &[u8]) -> String {
     String::from_utf8(bytes.to_vec()).unwrap()
 }
 
-fn state(cube: &FaceletCube) -> String {
-    text(&letters(&cube.state()))
+fn state(cube: &FaceletCube) -> Vec<u8> {
+    letters(&cube.state())
 }
 
 fn new(n: usize) -> FaceletCube {
     FaceletCube::new(n as i32)
 }
 
-fn entries(table: &inputs::Entries) -> String {
-    words(&table.iter().map(|(cube, number)| format!("{}{number}", text(cube))).collect::<Vec<_>>())
+fn entries(table: &inputs::Entries) -> Vec<u8> {
+    table.iter().flat_map(|(cube, number)| [&cube[..], &[*number as u8]].concat()).collect()
 }
 
 /// All single moves of a size.
@@ -58,33 +101,72 @@ fn each_kind(rng: &mut Rng, n: usize) -> Vec<u16> {
 struct List(Vec<String>);
 
 impl List {
-    fn add(&mut self, entry: &str, fields: &[String], answer: String) {
-        self.0.push(format!("{entry}|{}={answer}", fields.join("|")));
+    /// What is lent, the value, and what becomes of each lent slice; nothing is refused.
+    fn add(&mut self, entry: &str, numbers: [usize; 3], lent: Lent, value: usize, after: Lent) {
+        let line = [&[entry.to_string()], &numbers.map(|x| x.to_string())[..], &lent.fields()].concat().join("|");
+        self.0.push(format!("{line}|=0 {value}|{}", after.after(&lent).join("|")));
     }
 
     fn moved(&mut self, cube: &FaceletCube, n: usize, list: &[u16]) {
-        let fields = [n.to_string(), state(cube), words(list)];
-        self.add("apply_moves", &fields, state(&cube.apply_moves(&mvs(list))));
+        let m = 6 * n * n;
+        let lent = Lent::of([state(cube), sevens(m)], [list.to_vec()]);
+        let after = Lent::of([state(&cube.apply_moves(&mvs(list))), vec![0; m]], [list.to_vec()]);
+        self.add("apply_moves", [n, 0, 0], lent, 0, after);
     }
 
     fn moved_ids(&mut self, cube: &FaceletCube, n: usize, list: &[u16]) {
-        let fields = [n.to_string(), words(&ids(cube)), words(list)];
-        self.add("apply_moves_to_ids", &fields, words(&ids(&cube.apply_moves(&mvs(list)))));
+        let m = 6 * n * n;
+        let lent = Lent::of([], [ids(cube), nines(m), list.to_vec()]);
+        let after = Lent::of([], [ids(&cube.apply_moves(&mvs(list))), vec![0; m], list.to_vec()]);
+        self.add("apply_moves_to_ids", [n, 0, 0], lent, 0, after);
+    }
+
+    /// An entry that fills an output with codes, with two slots to spare.
+    fn filled(&mut self, entry: &str, n: usize, text: &[u8], moves: Option<&[u16]>, codes: &[u16], room: usize) {
+        let out = nines(room + 2);
+        let stored = over(&[codes, &vec![0; room - codes.len()]].concat(), &out);
+        let lists = |out: Vec<u16>| moves.map(|l| l.to_vec()).into_iter().chain([out]).collect::<Vec<_>>();
+        let lent = Lent { bytes: vec![text.to_vec()], numbers: lists(out.clone()) };
+        self.add(entry, [n, 0, 0], lent, codes.len(), Lent { bytes: vec![text.to_vec()], numbers: lists(stored) });
+    }
+}
+
+/// The slices that an entry is lent, of bytes and of numbers.
+struct Lent {
+    bytes: Vec<Vec<u8>>,
+    numbers: Vec<Vec<u16>>,
+}
+
+impl Lent {
+    fn of<const B: usize, const N: usize>(bytes: [Vec<u8>; B], numbers: [Vec<u16>; N]) -> Lent {
+        Lent { bytes: bytes.to_vec(), numbers: numbers.to_vec() }
+    }
+
+    /// Three fields of bytes and three of numbers, empty where fewer are lent.
+    fn fields(&self) -> Vec<String> {
+        let one = |k: usize| self.bytes.get(k).map_or(String::new(), |b| bytes(b));
+        let two = |k: usize| self.numbers.get(k).map_or(String::new(), |b| numbers(b));
+        (0..3).map(one).chain((0..3).map(two)).collect()
+    }
+
+    /// The same, `~` for what is as it was.
+    fn after(&self, before: &Lent) -> Vec<String> {
+        self.fields().into_iter().zip(before.fields()).map(|(new, old)| if new == old { "~".to_string() } else { new }).collect()
     }
 }
 
 fn cubes(list: &mut List, rng: &mut Rng) {
     for n in (1..=16).chain([26]) {
-        list.add("solved", &[n.to_string()], state(&new(n)));
+        list.add("solved", [n, 0, 0], Lent::of([sevens(6 * n * n)], []), 0, Lent::of([state(&new(n))], []));
     }
     for n in (1..=10).chain([13]) {
-        list.add("solved_ids", &[n.to_string()], words(&ids(&new(n))));
+        list.add("solved_ids", [n, 0, 0], Lent::of([], [nines(6 * n * n)]), 0, Lent::of([], [ids(&new(n))]));
     }
     for _ in 0..300 {
         let n = 1 + rng.below(5);
         let cube = inputs::painted(rng, n);
-        let answer = FaceletCube::from(faces(&cube)).is_solved() as u8;
-        list.add("is_solved", &[n.to_string(), text(&cube)], answer.to_string());
+        let answer = FaceletCube::from(faces(&cube)).is_solved() as usize;
+        list.add("is_solved", [n, 0, 0], Lent::of([cube.clone()], []), answer, Lent::of([cube], []));
     }
     for _ in 0..100 {
         let n = 1 + rng.below(4);
@@ -92,8 +174,8 @@ fn cubes(list: &mut List, rng: &mut Rng) {
         let turned = new(n).apply_moves(&mvs(&rng.codes(n, length)));
         let keep = inputs::keep(rng, n);
         let masked = turned.mask(&|i, f| if keep[i as usize] == 0 { cubesim::Face::X } else { f });
-        let kept: String = keep.iter().map(u8::to_string).collect();
-        list.add("mask", &[n.to_string(), state(&turned), words(&ids(&turned)), kept], state(&masked));
+        let lent = Lent::of([state(&turned), keep.clone()], [ids(&turned)]);
+        list.add("mask", [n, 0, 0], lent, 0, Lent::of([state(&masked), keep], [ids(&turned)]));
     }
 }
 
@@ -107,7 +189,7 @@ fn sticker_indices(list: &mut List, rng: &mut Rng) {
         .collect();
     for (n, letter, index) in small.chain(large) {
         let answer = cubesim::sticker_index(n as i32, face(letter), index as i32);
-        list.add("sticker_index", &[n.to_string(), (letter as char).to_string(), index.to_string()], answer.to_string());
+        list.add("sticker_index", [n, index, 0], Lent::of([vec![letter]], []), answer as usize, Lent::of([vec![letter]], []));
     }
 }
 
@@ -143,14 +225,15 @@ fn spelled(c: u16) -> String {
     format!("{front}{letter}{}{}", if width > 0 { "w" } else { "" }, ["", "", "2", "'"][turn])
 }
 
-/// Texts of the domain, without line feeds, which would end the record.
+/// Texts of the domain.
 fn texts(list: &mut List, rng: &mut Rng) {
     let mut left = 400;
     while left > 0 {
         let n = 1 + rng.below(104);
         let s = inputs::text(rng);
-        if grammar::in_domain(&s) && grammar::text(n, &s).is_ok() && !s.contains(&10) {
-            list.add("parse_scramble", &[n.to_string(), text(&s)], words(&codes(&cubesim::parse_scramble(text(&s)))));
+        if grammar::in_domain(&s) && grammar::text(n, &s).is_ok() {
+            let moves = codes(&cubesim::parse_scramble(text(&s)));
+            list.filled("parse_scramble", n, &s, None, &moves, moves.len());
             left -= 1;
         }
     }
@@ -161,7 +244,9 @@ fn texts(list: &mut List, rng: &mut Rng) {
         moves.retain(|c| c / 64 != 1 && c / 64 < n as u16 && c / 64 < 10);
         let spelling = words(&moves.iter().map(|c| spelled(*c)).collect::<Vec<_>>());
         assert_eq!(codes(&cubesim::parse_scramble(spelling.clone())), moves, "the crate reads {spelling:?} otherwise");
-        list.add("write_scramble", &[n.to_string(), words(&moves)], spelling);
+        let lent = sevens(spelling.len() + 2);
+        let after = Lent::of([over(spelling.as_bytes(), &lent)], [moves.clone()]);
+        list.add("write_scramble", [n, 0, 0], Lent::of([lent], [moves]), spelling.len(), after);
     }
 }
 
@@ -184,18 +269,20 @@ fn inverse(n: usize, moves: &[u16]) -> Vec<u16> {
 
 fn lists(list: &mut List, rng: &mut Rng) {
     for n in (1..=20).chain([33, 52, 104]) {
-        list.add("all_moves", &[n.to_string()], words(&codes(&cubesim::all_moves(n))));
+        let moves = codes(&cubesim::all_moves(n as i32));
+        list.filled("all_moves", n, &[], None, &moves, moves.len());
     }
     for round in 0..400 {
         let n = 1 + rng.below(12);
         let moves = inputs::joining_list(rng, n, round % 100 == 0);
-        list.add("simplify_moves", &[n.to_string(), words(&moves)], words(&codes(&cubesim::simplify_moves(&mvs(&moves)))));
+        let joined = codes(&cubesim::simplify_moves(&mvs(&moves)));
+        list.filled("simplify_moves", n, &[], Some(&moves), &joined, moves.len());
     }
     for _ in 0..300 {
         let n = 1 + rng.below(12);
         let length = rng.below(16);
         let moves = rng.codes(n, length);
-        list.add("invert_moves", &[n.to_string(), words(&moves)], words(&inverse(n, &moves)));
+        list.filled("invert_moves", n, &[], Some(&moves), &inverse(n, &moves), moves.len());
     }
 }
 
@@ -203,11 +290,13 @@ fn tables(list: &mut List, rng: &mut Rng) {
     let mut left = 150;
     while left > 0 {
         let asked = inputs::Build::new(rng);
-        let starts = words(&asked.starts.iter().map(state).collect::<Vec<_>>());
+        let starts: Vec<u8> = asked.starts.iter().flat_map(state).collect();
         let table = asked.crates();
-        let answer = format!("{}|{}", table.len(), entries(&table));
-        if answer.len() + starts.len() < LONG && asked.n <= 3 {
-            list.add("pruning_table", &[asked.n.to_string(), starts, words(&asked.moves), asked.depth.to_string()], answer);
+        let stored = entries(&table);
+        if stored.len() + starts.len() < LONG && asked.n <= 3 {
+            let lent = sevens(stored.len() + 6 * asked.n * asked.n + 3);
+            let after = Lent::of([starts.clone(), over(&stored, &lent)], [asked.moves.clone()]);
+            list.add("pruning_table", [asked.n, asked.depth, 0], Lent::of([starts, lent], [asked.moves.clone()]), table.len(), after);
             left -= 1;
         }
     }
@@ -221,9 +310,14 @@ fn searches(list: &mut List, rng: &mut Rng) {
         let table = entries(&asked.entries);
         let found = asked.crates();
         if table.len() < LONG && (left % 4 < 2 || found.iter().any(|moves| !moves.is_empty())) {
-            let answer = found.map_or("none".to_string(), |moves| words(&moves));
-            let fields = [asked.n.to_string(), text(&asked.from), table, asked.depth.to_string(), words(&asked.moves), asked.limit.to_string()];
-            list.add("ida_star", &fields, answer);
+            let need = (asked.limit + 1) * 6 * asked.n * asked.n;
+            let (work, out) = (sevens(need + 2), nines(asked.limit + 2));
+            let value = found.as_ref().map_or(0, |moves| moves.len() + 1);
+            let zeroed = over(&vec![0; need], &work);
+            let stored = over(&found.unwrap_or_default(), &out);
+            let lent = Lent::of([asked.from.clone(), table.clone(), work], [asked.moves.clone(), out]);
+            let after = Lent::of([asked.from.clone(), table, zeroed], [asked.moves.clone(), stored]);
+            list.add("ida_star", [asked.n, asked.depth, asked.limit], lent, value, after);
             left -= 1;
         }
     }
