@@ -138,6 +138,7 @@ int main(void) {
     size_t seen = used_by(written), guessed = used_by(hidden);
     judge("65,536 bytes are seen", seen >= 1 << 16 && seen < (1 << 16) + 256 && guessed >= 1 << 16 && guessed < (1 << 16) + 256);
 
+    measure("cubesim_version", cubesim_version, CUBESIM_VERSION, OTHER);
     measure("cubesim_solved, n = 104", solved_letters, 0, OTHER);
     measure("cubesim_solved_ids, n = 104", solved_numbers, 0, OTHER);
     measure("cubesim_is_solved, n = 104", is_solved, value(1), OTHER);

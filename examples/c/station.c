@@ -20,6 +20,10 @@ int main(void) {
     uint8_t cube[STICKERS], work[(LIMIT + 1) * STICKERS], table[64 * (STICKERS + 1)], text[64];
     uint16_t moves[16], home[LIMIT];
 
+    if (cubesim_version() != CUBESIM_VERSION) {
+        printf("the library is of another version than its header\n");
+        return 1;
+    }
     uint64_t count = taken("parse", cubesim_parse_scramble(SIZE, (const uint8_t *)scramble, strlen(scramble), moves, 16));
     taken("solved", cubesim_solved(SIZE, cube, STICKERS));
     uint64_t entries = taken("table", cubesim_pruning_table(SIZE, cube, STICKERS, halves, 6, 2, table, sizeof table));

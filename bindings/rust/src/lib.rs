@@ -1,6 +1,7 @@
 //! Safe functions over `libcubesim.a`, the proved cube library: slices in, a `Result` out.
 //!
 //! A cube is `6 * n * n` bytes, its faces in the order U R F D L B. A move is a code: `width * 64 + kind * 4 + turn`; see [`code`].
+//! What is refused, and when, is the table "Refusals" of the repository's docs/RULES.md.
 //!
 //! ```
 //! use cubesim_proved as cubesim;
@@ -21,6 +22,7 @@ use std::fmt;
 
 mod raw {
     extern "C" {
+        pub fn cubesim_version() -> u64;
         pub fn cubesim_solved(n: u64, cube: *mut u8, cube_len: usize) -> u64;
         pub fn cubesim_solved_ids(n: u64, ids: *mut u16, ids_len: usize) -> u64;
         pub fn cubesim_is_solved(n: u64, cube: *const u8, cube_len: usize) -> u64;
@@ -38,30 +40,37 @@ mod raw {
     }
 }
 
-/// Why an entry refused its input.
+/// Why an entry refused its input. The exact condition of each number is in docs/RULES.md, "Refusals"; [`Refusal`] as text says it in short.
+/// New versions may bring new numbers.
+///
+/// ```
+/// let refused = cubesim_proved::is_solved(0, b"").unwrap_err();
+/// assert_eq!((refused.number(), refused.to_string().as_str()), (1, "refused 1: the size is outside its range"));
+/// ```
 #[derive(Clone, Copy, Debug, Eq, Hash, PartialEq)]
+#[non_exhaustive]
 pub enum Refusal {
-    /// 1: the size is outside its range.
+    /// 1
     Size,
-    /// 2: a cube, id or keep slice, or a list runner's work area, isn't 6n² long, or starting cubes aren't a whole number of cubes.
+    /// 2
     Length,
-    /// 3: a code has turn 0, kind 15, or a width on a kind without one.
+    /// 3
     Code,
-    /// 4: the token that starts at this byte isn't in the grammar.
+    /// 4, with the byte at which the token starts
     Token(usize),
-    /// 5: a width is outside its range; the parser says at which byte the token starts.
+    /// 5, from the parser with the byte at which the token starts
     Width(Option<usize>),
-    /// 6: the output is too short.
+    /// 6
     Room,
-    /// 7: more than 255 candidates, or limit or depth above 20.
+    /// 7
     Bounds,
-    /// 8: a table isn't whole entries with strictly rising keys.
+    /// 8
     Table,
-    /// 9: the search's work area is too short.
+    /// 9
     Work,
-    /// 10: no such face or index, or an id of 6n² or more.
+    /// 10
     Index,
-    /// 11: a turned position lies on no face.
+    /// 11
     NoFace,
 }
 
@@ -142,6 +151,20 @@ fn taken(answer: u64, placed: bool) -> Result<usize, Refusal> {
     } else {
         Err(Refusal::of(number, value, placed))
     }
+}
+
+/// The version of this package.
+pub const VERSION: &str = env!("CARGO_PKG_VERSION");
+
+/// The version of the library that is linked: major, minor, patch. The repository's CHANGELOG.md says what a change of it means.
+///
+/// ```
+/// let (major, minor, patch) = cubesim_proved::version();
+/// assert_eq!(format!("{major}.{minor}.{patch}"), cubesim_proved::VERSION);
+/// ```
+pub fn version() -> (u64, u64, u64) {
+    let told = unsafe { raw::cubesim_version() };
+    (told / 65536, told / 256 % 256, told % 256)
 }
 
 /// The code of a move: kinds U 0, L 1, F 2, R 3, B 4, D 5, Uw 6, Lw 7, Fw 8, Rw 9, Bw 10, Dw 11, x 12, y 13, z 14; turns 1 to 3.
