@@ -13,7 +13,8 @@ infix 68 _when_
 abbrev pub _when_ : ℕ → Bool → Row
 k when t = record { number = k; applies = t }
 
--- the lowest number that applies, 0 for none: rows stand in the numbers' order, so it is the first that does
+-- the number of the first row that applies, 0 for none. Rows stand in the numbers' order, so that it is the lowest that applies; where a rule
+-- says that a number comes last, its row does
 unfoldable pub lowest : List Row → ℕ
 lowest [] = 0
 lowest (r ∷ rows) = pick (r .applies) (r .number) (lowest rows)
