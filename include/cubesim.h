@@ -28,7 +28,7 @@ extern "C" {
 
 /* The version of this header, as VERSION has it. CHANGELOG.md says what a change of it means. */
 #define CUBESIM_VERSION_MAJOR 0
-#define CUBESIM_VERSION_MINOR 1
+#define CUBESIM_VERSION_MINOR 2
 #define CUBESIM_VERSION_PATCH 0
 #define CUBESIM_VERSION (CUBESIM_VERSION_MAJOR * 65536 + CUBESIM_VERSION_MINOR * 256 + CUBESIM_VERSION_PATCH)
 
@@ -70,7 +70,7 @@ uint64_t cubesim_sticker_index(uint64_t n, uint8_t face, uint64_t index);
    Example: assert(cubesim_mask(1, c, 6, ids, 6, keep, 6) == 0 && memcmp(c, "UXFDLB", 6) == 0); */
 uint64_t cubesim_mask(uint64_t n, uint8_t *cube, size_t cube_len, const uint16_t *ids, size_t ids_len, const uint8_t *keep, size_t keep_len);
 
-/* Every move in order. The list is checked whole first; afterwards the work area, as long as the cube, is zero. Refusals 1, 2, 3, 5, 11.
+/* Every move in order. The list is checked whole first; afterwards the work area, as long as the cube, is zero. Refusals 1, 2, 3, 5.
    Example: uint8_t c[] = "URFDLB", work[6]; const uint16_t u[] = {1};
    Example: assert(cubesim_apply_moves(1, c, 6, work, 6, u, 1) == 0 && memcmp(c, "UBRDFL", 6) == 0 && work[0] == 0); */
 uint64_t cubesim_apply_moves(uint64_t n, uint8_t *cube, size_t cube_len, uint8_t *work, size_t work_len, const uint16_t *moves, size_t moves_len);
@@ -109,7 +109,7 @@ uint64_t cubesim_invert_moves(uint64_t n, const uint16_t *moves, size_t moves_le
 
 /* A pruning table: an entry of 6n² + 1 bytes, a cube and a number, for each state that at most `depth` candidates reach from a starting
    cube, with the least such count, in rising order of the cubes; the value is the count of entries, and what lies after them stays.
-   Refusals 1, 2, 3, 5, 7, 11, and last 6, after which the whole table is zero.
+   Refusals 1, 2, 3, 5, 7, and last 6, after which the whole table is zero.
    Stack: 11 KiB for a table of some hundred entries, 1,028 KiB for a larger one (tests/stack).
    Example: uint8_t c[54], table[7 * 55]; const uint16_t halves[] = {2, 22, 10, 18, 6, 14}; cubesim_solved(3, c, 54);
    Example: assert(cubesim_value(cubesim_pruning_table(3, c, 54, halves, 6, 1, table, sizeof table)) == 7);
@@ -118,7 +118,7 @@ uint64_t cubesim_pruning_table(uint64_t n, const uint8_t *starts, size_t starts_
 
 /* The first list, by iterative deepening up to `limit` moves, that leads the cube to an entry with number 0, no two neighbours of the same
    kind. The value is 0 for none, and k + 1 for k moves, which then are the first of `out`. `out` has room for `limit` moves, the work area
-   for (limit + 1)*6n² bytes, which are zero afterwards. Refusals 1, 2, 3, 5, 6, 7, 8, 9, 11.
+   for (limit + 1)*6n² bytes, which are zero afterwards. Refusals 1, 2, 3, 5, 6, 7, 8, 9.
    examples/c/station.c builds a table and searches with it. A table of the goal alone, at depth 0:
    Example: uint8_t goal[55], c[54], work[108]; const uint16_t moves[] = {1}; uint16_t out[1];
    Example: cubesim_solved(3, goal, 54); goal[54] = 0; cubesim_solved(3, c, 54);

@@ -70,8 +70,6 @@ pub enum Refusal {
     Work,
     /// 10
     Index,
-    /// 11
-    NoFace,
 }
 
 impl Refusal {
@@ -88,7 +86,6 @@ impl Refusal {
             Refusal::Table => 8,
             Refusal::Work => 9,
             Refusal::Index => 10,
-            Refusal::NoFace => 11,
         }
     }
 
@@ -113,7 +110,6 @@ impl Refusal {
             8 => Refusal::Table,
             9 => Refusal::Work,
             10 => Refusal::Index,
-            11 => Refusal::NoFace,
             other => unreachable!("libcubesim.a has no refusal {other}"),
         }
     }
@@ -132,7 +128,6 @@ impl fmt::Display for Refusal {
             Refusal::Table => "a table is not whole entries with rising keys",
             Refusal::Work => "the work area is too short",
             Refusal::Index => "no such sticker or id",
-            Refusal::NoFace => "a turned position lies on no face",
         };
         write!(f, "refused {}", self.number())?;
         if let Some(at) = self.place() {

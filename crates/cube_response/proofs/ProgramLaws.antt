@@ -9,8 +9,8 @@ use lib.Dec.{leb, eqb}
 use lib.ListN.{length, getD, take, drop, length-drop, drop-of-length-le}
 use lib.Seq.{take-all, take-take, length-take-le}
 use borrow.Author.Tests.{eq-eqb, ne-eqb, lt-ltb, le-ltb, lt-leb, le-leb, leb-true, eqb-true, eqb-false, not-true, not-false}
-use Rattle.ground.proofs.ChoiceLaws.{bool-cases, between-bounds, position-here, position-next, position-end, position-most, tested, less-cases}
-use Rattle.ground.specs.Choice.{position, between, anyBelow}
+use Rattle.ground.proofs.ChoiceLaws.{anyBelow, bool-cases, between-bounds, position-here, position-next, position-end, position-most, tested, less-cases}
+use Rattle.ground.specs.Choice.{position, between}
 use Rattle.generic_cube.specs.Code.{outside}
 use Rattle.scramble_parser.specs.Token.{digitOf, isDigit, digitsOf, numberOf}
 use Rattle.scramble_parser.proofs.TokenLaws.{digit-back}

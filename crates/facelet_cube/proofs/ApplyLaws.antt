@@ -2,22 +2,22 @@
 use Prim.Native.Nat.{ℕ, _+_, _<_, _≤_}
 use mathlib.Core.Path.{_≡_, refl, sym, ap, _∙_}
 use mathlib.Core.Bool.{true}
-use mathlib.Core.List.{List, [], _∷_, _++_}
+use mathlib.Core.List.{List, _∷_}
 use native.Mathlib.Omega.{arith}
 use native.Mathlib.Numerals.{add-one}
 use lib.ListN.{length, getD, drop, replicate, drop-of-length-le}
 use lib.Seq.{drop-cons}
 use borrow.Author.Tests.{eqb-true, ne-eqb, eq-eqb, not-false}
-use Rattle.ground.specs.Refusals.{_when_, lowest}
-use Rattle.ground.proofs.RefusalLaws.{passed, pass-lowest, lowest-behind}
+use Rattle.ground.specs.Refusals.{lowest}
+use Rattle.ground.proofs.RefusalLaws.{passed, pass-lowest}
 use Rattle.generic_cube.specs.declared.Move.{Move}
 use Rattle.generic_cube.specs.declared.Done.{Done}
 use Rattle.generic_cube.specs.declared.Done.the-variants.{Ok}
 use Rattle.generic_cube.specs.Sizes.{sized, stickers}
 use Rattle.generic_cube.specs.Code.{moveOf, listRows, listRefusal}
 use Rattle.generic_cube.proofs.CodeLaws.{bounds-sized}
-use Rattle.geometric_moves.specs.Turn.{moved, run, listOff}
-use Rattle.geometric_moves.proofs.TurnLaws.{size-in-range, list-on}
+use Rattle.geometric_moves.specs.Turn.{moved, run}
+use Rattle.geometric_moves.proofs.TurnLaws.{size-in-range}
 use Rattle.geometric_moves.proofs.MovedLaws.{length-moved}
 use Rattle.facelet_cube.specs.Inner.{Runnable}
 use Rattle.facelet_cube.specs.Apply.{applyRows, applyRefusal, ApplyMovesResult}
@@ -34,19 +34,15 @@ runnable n cube work moves e =
       list = pass-lowest (listRows n moves) (p .1 .1 .1 .0, (p .1 .1 .1 .1 .0, tt));
     }
 
--- where the sizes are in order the list's rows answer, and then row 11
+-- where the sizes are in order the list's refusal is the answer
 pub apply-list : (n cube work : ℕ) (moves : List ℕ) → sized n ≡ true → cube ≡ stickers n → work ≡ stickers n
-    → applyRefusal n cube work moves ≡ lowest (listRows n moves ++ (11 when listOff n moves ∷ []))
-unfolding applyRefusal lowest
+    → applyRefusal n cube work moves ≡ listRefusal n moves
+unfolding applyRefusal listRefusal lowest
 apply-list n cube work moves s a b = rw (s, eq-eqb _ _ a, eq-eqb _ _ b)
 
--- and such a list is never refused: refusal 11 does not come
 pub runnable-applies : {n cube work : ℕ} {moves : List ℕ} → Runnable n cube work moves → applyRefusal n cube work moves ≡ 0
-unfolding lowest listRefusal
 runnable-applies {n} {cube} {work} {moves} g =
-    apply-list n cube work moves (bounds-sized n (g .size .some) (g .size .size)) (g .cube-long) (g .work-long)
-    ∙ lowest-behind (listRows n moves) (11 when listOff n moves ∷ []) (passed (listRows n moves) refl (g .list))
-    ∙ rw (list-on n moves (g .size .some))
+    apply-list n cube work moves (bounds-sized n (g .size .some) (g .size .size)) (g .cube-long) (g .work-long) ∙ g .list
 
 -- moving asks nothing of the work area
 pub runnable-cube : {n cube work : ℕ} {moves : List ℕ} → Runnable n cube work moves → Runnable n cube cube moves

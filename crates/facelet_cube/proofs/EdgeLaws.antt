@@ -3,13 +3,10 @@ use Prim.Native.Nat.{ℕ, zero, suc, _+_, _-_, _*_, _/_, _%_, _<_}
 use mathlib.Core.Path.{_≡_, refl, ap, _∙_}
 use native.Mathlib.Omega.{arith}
 use lib.ListN.{getD}
-use Rattle.ground.specs.Choice.{anyBelow}
-use Rattle.ground.proofs.ChoiceLaws.{tested}
+use Rattle.ground.proofs.ChoiceLaws.{anyBelow, tested}
 use Rattle.sticker.specs.declared.Face.{Face}
 use Rattle.sticker.specs.declared.Face.the-variants.{U, R, F, D, L, B}
-use Rattle.sticker.specs.declared.Pos.{Pos}
-use Rattle.sticker.specs.declared.Slot.{Slot}
-use Rattle.sticker.specs.Place.{top, mid, nthFace, seat, placeOf, InCube}
+use Rattle.sticker.specs.Place.{Pos, Slot, top, mid, nthFace, seat, placeOf, InCube}
 use Rattle.sticker.proofs.PlaceLaws.{pos-eq, sticker-in}
 use Rattle.geometric_moves.specs.declared.Rotation.{Rotation}
 use Rattle.geometric_moves.specs.Turn.{toward, rotate, opposite, facing, sameFace, quarterOf, inverseRot, whither}

@@ -15,8 +15,7 @@ use Rattle.generic_cube.specs.declared.Move.{Move}
 use Rattle.generic_cube.specs.Sizes.{stickers}
 use Rattle.generic_cube.specs.Inner.{Fair}
 use Rattle.sticker.specs.declared.Face.{Face}
-use Rattle.sticker.specs.declared.Slot.{Slot}
-use Rattle.sticker.specs.Place.{top, numOf, nthFace, placeOf, flat, unflat}
+use Rattle.sticker.specs.Place.{Slot, top, numOf, nthFace, placeOf, flat, unflat}
 use Rattle.sticker.proofs.PlaceLaws.{Real, slot-eq, num-nth, number-below, flat-unflat, unflat-real, digits-below}
 use Rattle.geometric_moves.specs.Turn.{toward, opposite, sameFace, kindFace, layersOf, source, moved}
 use Rattle.geometric_moves.proofs.RotationLaws.{neg-toward, opposite-twice}

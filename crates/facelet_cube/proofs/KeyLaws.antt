@@ -8,8 +8,7 @@ use lib.ListN.{getD}
 use Rattle.ground.proofs.ChoiceLaws.{less-cases}
 use Rattle.generic_cube.specs.Sizes.{stickers}
 use Rattle.sticker.specs.declared.Face.{Face}
-use Rattle.sticker.specs.declared.Slot.{Slot}
-use Rattle.sticker.specs.Place.{flat, unflat}
+use Rattle.sticker.specs.Place.{Slot, flat, unflat}
 use Rattle.sticker.proofs.PlaceLaws.{Real, slot-eq, flat-unflat, unflat-real, high-digit, low-digit, digits-below}
 use Rattle.geometric_moves.specs.Inner.{Sized}
 use Rattle.facelet_cube.proofs.LaneLaws.{spots, ring-edge}

@@ -9,8 +9,7 @@ use native.Mathlib.Nat.{div-one, add-mul, mul-le-mul, mul-le-mul-right, suc-mul}
 use lib.Dec.{ltb, eqb}
 use lib.ListN.{length, getD, set, length-set}
 use borrow.Author.Tests.{ltb-true, eqb-true}
-use Rattle.ground.specs.Choice.{anyBelow}
-use Rattle.ground.proofs.ChoiceLaws.{tested}
+use Rattle.ground.proofs.ChoiceLaws.{anyBelow, tested}
 use Rattle.generic_cube.specs.Sizes.{stickers}
 use Rattle.sticker.proofs.PlaceLaws.{room, digits-below}
 use Rattle.geometric_moves.specs.Inner.{Sized}

@@ -8,8 +8,7 @@ use lib.ListN.{getD}
 use Rattle.ground.specs.Choice.{pick}
 use Rattle.generic_cube.specs.declared.Move.{Move}
 use Rattle.generic_cube.specs.Sizes.{stickers}
-use Rattle.sticker.specs.declared.Slot.{Slot}
-use Rattle.sticker.specs.Place.{nthFace, placeOf, flat, unflat, place, index}
+use Rattle.sticker.specs.Place.{Slot, nthFace, placeOf, flat, unflat, place, index}
 use Rattle.sticker.proofs.PlaceLaws.{nth-num, unflat-flat, slot-place, index-place, flat-below}
 use Rattle.geometric_moves.specs.Turn.{toward, rotate, quarterOf, turnOf, kindFace, takes, turned, target, source}
 use Rattle.generic_cube.specs.Code.{withTurn}

@@ -6,11 +6,10 @@ use native.Mathlib.Omega.{arith}
 use lib.Dec.{ltb, eqb}
 use lib.ListN.{getD}
 use borrow.Author.Tests.{lt-ltb, le-ltb, eqb-true, eq-eqb, ne-eqb, ltb-true, not-true}
-use Rattle.ground.specs.Choice.{pick, anyBelow}
-use Rattle.ground.proofs.ChoiceLaws.{bool-cases, tested, less-cases}
+use Rattle.ground.specs.Choice.{pick}
+use Rattle.ground.proofs.ChoiceLaws.{anyBelow, bool-cases, tested, less-cases}
 use Rattle.sticker.specs.declared.Face.{Face}
-use Rattle.sticker.specs.declared.Slot.{Slot}
-use Rattle.sticker.specs.Place.{numOf, nthFace}
+use Rattle.sticker.specs.Place.{Slot, numOf, nthFace}
 use Rattle.sticker.proofs.PlaceLaws.{Real, num-nth, number-below}
 use Rattle.geometric_moves.specs.Turn.{opposite, sameFace}
 use Rattle.geometric_moves.specs.Inner.{Sized}

@@ -20,14 +20,7 @@ fn apply_refusal(n: usize, cube: usize, work: usize, moves: &[MoveCode]) -> u8
         if work != count {
             return 2;
         }
-        let number = generic_cube::list_refusal(n, moves);
-        if number != 0 {
-            return number;
-        }
-        if geometric_moves::list_off(n, moves) {
-            return 11;
-        }
-        return 0;
+        return generic_cube::list_refusal(n, moves);
     }
     1
 }

@@ -5,8 +5,7 @@ use native.Mathlib.Omega.{arith}
 use native.Mathlib.Nat.{add-zero, add-suc}
 use Rattle.sticker.specs.declared.Face.{Face}
 use Rattle.sticker.specs.declared.Face.the-variants.{U, R, F, D, L, B}
-use Rattle.sticker.specs.declared.Pos.{Pos}
-use Rattle.sticker.specs.Place.{neg, InCube}
+use Rattle.sticker.specs.Place.{Pos, neg, InCube}
 use Rattle.sticker.proofs.PlaceLaws.{pos-eq}
 use Rattle.geometric_moves.specs.declared.Rotation.{Rotation}
 use Rattle.geometric_moves.specs.Turn.{toward, rotate, identity, opposite, facing, thenRot, sameFace, whither, inverseRot, turnOf, quarterOf}

@@ -2,30 +2,25 @@
 -- of the coordinate towards the face.
 use Prim.Native.Nat.{ℕ, zero, suc, _+_, _-_, _*_, _%_, _<_, _≤_}
 use mathlib.Core.Path.{_≡_, refl, ap, sym, subst, _∙_}
-use mathlib.Core.Bool.{Bool, true, false, not, _&&_, true≢false}
-use mathlib.Core.List.{List}
+use mathlib.Core.Bool.{Bool, true, false, _&&_}
 use native.Mathlib.Omega.{arith}
-use native.Mathlib.Nat.{mul-le-mul, mul-le-mul-right, suc-mul, mul-assoc, zero-add}
+use native.Mathlib.Nat.{zero-add}
 use lib.Dec.{ltb, leb, eqb}
 use borrow.Author.Tests.{le-leb, lt-leb, lt-ltb, le-ltb, eq-eqb, ne-eqb}
 use Rattle.ground.specs.Choice.{pick}
-use Rattle.ground.proofs.ChoiceLaws.{bool-cases, less-cases, any-never, below-never}
+use Rattle.ground.proofs.ChoiceLaws.{bool-cases, less-cases}
 use Rattle.generic_cube.specs.declared.Move.{Move}
 use Rattle.generic_cube.specs.Sizes.{sized, stickers}
 use Rattle.generic_cube.proofs.CodeLaws.{sized-bounds}
-use Rattle.generic_cube.specs.Code.{moveOf, withTurn}
+use Rattle.generic_cube.specs.Code.{withTurn}
 use Rattle.generic_cube.specs.Inner.{Fair}
 use Rattle.sticker.specs.declared.Face.{Face}
 use Rattle.sticker.specs.declared.Face.the-variants.{U, R, F, D, L, B}
-use Rattle.sticker.specs.declared.Pos.{Pos}
-use Rattle.sticker.specs.declared.Found.the-variants.{NoFace}
-use Rattle.sticker.specs.Place.{top, bot, mid, seat, placeOf, side, place, index, InCube}
-use Rattle.sticker.specs.Inner.{foundAt, Inside}
-use Rattle.sticker.proofs.PlaceLaws.{sticker-in, pos-eq, Sticker, sticker-on, found-off, place-sticker, place-index, index-place, index-below}
+use Rattle.sticker.specs.Place.{Pos, top, bot, mid, seat, placeOf, place, index, InCube}
+use Rattle.sticker.proofs.PlaceLaws.{sticker-in, pos-eq, Sticker, place-sticker, place-index, index-place, index-below}
 use Rattle.geometric_moves.specs.declared.Rotation.{Rotation}
-use Rattle.geometric_moves.specs.declared.GeometricMove.{GeometricMove}
-use Rattle.geometric_moves.specs.Turn.{toward, rotate, identity, rotX, rotY, rotZ, thenRot, sameFace, whither, inverseRot, turnOf, quarterOf, kindFace, layersOf, takes, via, geometric, turnedBy, turned, target, offAt, offFace, listOff}
-use Rattle.geometric_moves.specs.Inner.{Sized, Takeable, Turns, MadeOf}
+use Rattle.geometric_moves.specs.Turn.{toward, rotate, identity, rotX, rotY, rotZ, thenRot, sameFace, whither, inverseRot, turnOf, quarterOf, kindFace, layersOf, takes, via, rotationOf, turned, target}
+use Rattle.geometric_moves.specs.Inner.{Sized}
 use Rattle.geometric_moves.proofs.RotationLaws.{toward-rotate, rotate-then, turn-add, turn-mod, turn-axis}
 
 -- the sticker in column c and row r of face f
@@ -124,7 +119,7 @@ via-none n f test p = go (test (toward n p f))
 -- a turned sticker is a sticker, whatever the move
 pub turned-sticker : (n : ℕ) (m : Move) (p : Pos) → Sticker n p → Sticker n (turned n m p)
 turned-sticker n m p s =
-    via-sticker n (kindFace (m .kind)) (takes n m) (turnOf (m .turn) (quarterOf (kindFace (m .kind)))) p
+    via-sticker n (kindFace (m .kind)) (takes n m) (rotationOf m) p
     (keeps-turn (m .turn) (quarterOf (kindFace (m .kind))) (keeps-quarter (kindFace (m .kind)))) s
 
 -- stored places
@@ -215,74 +210,3 @@ takes-first {n} {m} z f =
         (less-cases w n
         (λ l. lt-leb (top n) (c + 2 * w) (omega arith) ∙ sym (ne-eqb w n (λ d. omega arith)))
         (λ l. le-leb (top n) (c + 2 * w) (omega arith) ∙ sym (eq-eqb w n (omega (arith, most)))))
-
--- a geometric move made of a move turns stickers' places into stickers' places
-pub made-sticker : {n : ℕ} {g : GeometricMove} → MadeOf n g → (p : Pos) → Sticker n p → Sticker n (turnedBy n g p)
-made-sticker {n} {g} k p s = subst (λ (x : GeometricMove). Sticker n (turnedBy n x p)) (sym (k .is)) (turned-sticker n (g .given) p s)
-
-pub takeable : {n : ℕ} {g : GeometricMove} {p : Pos} {c : ℕ} (f : Face) → Turns n g p → c ≡ toward n p f → Takeable n (g .given) c
-takeable {n} {g} {p} {c} f t e =
-    record { sized = record { some = t .some; size = t .inside .size }; width = t .width; within = omega (arith, toward-within n p (t .inside .cube) f) }
-
-pub geometric-made : {n : ℕ} {m : Move} {g : GeometricMove} → Sized n → Fair n m → g ≡ geometric m → MadeOf n g
-geometric-made {n} {m} {g} z f e = subst (MadeOf n) (sym e) (record { sized = z; fair = f; is = refl })
-
--- the code's steps: a position turned, or left where it is
-module _ (n : ℕ) (g : GeometricMove) (p : Pos) {c : ℕ} {b : Bool} (e : c ≡ toward n p (g .face)) (d : b ≡ takes n (g .given) c) where
-  pub turned-in : b ≡ true → rotate n (g .rotation) p ≡ turnedBy n g p
-  turned-in t = ap (λ x. pick x (rotate n (g .rotation) p) p) (sym t ∙ d ∙ ap (takes n (g .given)) e)
-
-  pub turned-out : b ≡ false → p ≡ turnedBy n g p
-  turned-out t = ap (λ x. pick x (rotate n (g .rotation) p) p) (sym t ∙ d ∙ ap (takes n (g .given)) e)
-
--- a move's parts
-pub geometric-is : (m : Move) {f : Face} {q r : Rotation} → f ≡ kindFace (m .kind) → q ≡ quarterOf f → r ≡ turnOf (m .turn) q
-    → _≡_ {A = GeometricMove} (record { given = m; face = f; rotation = r }) (geometric m)
-geometric-is m {f} {q} {r} a c d =
-    let e : r ≡ turnOf (m .turn) (quarterOf (kindFace (m .kind))) = d ∙ ap (turnOf (m .turn)) (c ∙ ap quarterOf a) in
-    λ i. record { given = m; face = a i; rotation = e i }
-
--- a sticker's place may be turned, and then looked up
-module _ {n : ℕ} {g : GeometricMove} {p : Pos} (j : ℕ) (k : MadeOf n g) (e : p ≡ place n j) where
-  at-place : Sticker n p
-  at-place = subst (Sticker n) (sym e) (place-sticker n j (k .sized .some))
-
-  pub may-turn : Turns n g p
-  may-turn = record { some = k .sized .some; inside = record { size = k .sized .size; cube = sticker-in n p at-place }; width = k .fair .width }
-
-  pub may-find : {q : Pos} → q ≡ turnedBy n g p → Inside n q
-  may-find {q} d =
-      record { size = k .sized .size; cube = sticker-in n q (subst (Sticker n) (sym d) (made-sticker k p at-place)) }
-
--- a sticker that is turned is found
-module _ {n : ℕ} {g : GeometricMove} (j : ℕ) (k : MadeOf n g) where
-  turned-there : Sticker n (turnedBy n g (place n j))
-  turned-there = made-sticker k (place n j) (place-sticker n j (k .sized .some))
-
-  pub target-found : NoFace ≡ foundAt n (turnedBy n g (place n j)) → ⊥
-  target-found e = true≢false (sym (sticker-on n (turnedBy n g (place n j)) turned-there) ∙ found-off n (turnedBy n g (place n j)) e)
-
--- so refusal 11 never comes: whatever the move, and whatever the list, every turned position lies on a face
-pub move-on : (n : ℕ) (m : Move) → 0 < n → offFace n m ≡ false
-move-on n m h =
-    below-never (offAt n (geometric m))
-    (λ j. ap not (sticker-on n (turned n m (place n j)) (turned-sticker n m (place n j) (place-sticker n j h)))) (stickers n)
-
-pub list-on : (n : ℕ) (cs : List ℕ) → 0 < n → listOff n cs ≡ false
-unfolding listOff
-list-on n cs h = any-never (λ c. offFace n (moveOf c)) (λ c. move-on n (moveOf c) h) cs
-
--- the first sticker of a face
-pub record FaceStart (n k : ℕ) : Type 0 where
-  pub side : n * n ≤ 10816
-  pub within : k * (n * n) < stickers n
-  pub small : k * (n * n) ≤ 64896
-
-pub face-start : (n k : ℕ) → Sized n → k < 6 → FaceStart n k
-face-start n k z h =
-    let a = mul-le-mul {n₁ = n} {m₁ = n} {n₂ = 104} {m₂ = 104} (z .size) (z .size) in
-    let b = mul-le-mul {n₁ = 1} {m₁ = 1} {n₂ = n} {m₂ = n} (z .some) (z .some) in
-    let d = mul-le-mul-right (n * n) h in
-    let e = suc-mul k (n * n) in
-    let g = mul-assoc 6 n n in
-    record { side = a; within = omega arith; small = omega arith }

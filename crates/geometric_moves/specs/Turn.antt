@@ -1,20 +1,18 @@
 -- Rotations, layers, and what a move does to a place, to an index and to a cube.
 use Prim.Native.Nat.{ℕ, zero, suc, _+_, _-_, _*_, _%_}
-use mathlib.Core.Bool.{Bool, not}
+use mathlib.Core.Bool.{Bool}
 use mathlib.Core.List.{List, [], _∷_}
 use lib.Dec.{ltb, leb, eqb}
 use lib.ListN.{getD}
-use Rattle.ground.specs.Choice.{pick, any, anyBelow}
+use Rattle.ground.specs.Choice.{pick}
 use Rattle.ground.specs.Lists.{tabulate}
 use Rattle.generic_cube.specs.declared.Move.{Move}
 use Rattle.generic_cube.specs.Sizes.{stickers}
 use Rattle.generic_cube.specs.Code.{moveOf, back}
 use Rattle.sticker.specs.declared.Face.{Face}
 use Rattle.sticker.specs.declared.Face.the-variants.{U, R, F, D, L, B}
-use Rattle.sticker.specs.declared.Pos.{Pos}
-use Rattle.sticker.specs.Place.{top, neg, at3, numOf, side, isOn, place, index}
+use Rattle.sticker.specs.Place.{Pos, top, neg, at3, numOf, place, index}
 use Rattle.geometric_moves.specs.declared.Rotation.{Rotation}
-use Rattle.geometric_moves.specs.declared.GeometricMove.{GeometricMove}
 
 -- the coordinate of p along the half axis that points to a face
 abbrev pub toward : ℕ → Pos → Face → ℕ
@@ -126,20 +124,13 @@ takes n m c = leb (top n) (c + 2 * layersOf n m)
 abbrev pub via : ℕ → Face → (ℕ → Bool) → Rotation → Pos → Pos
 via n f test r p = pick (test (toward n p f)) (rotate n r p) p
 
--- a move as the source's GeometricMove has it, with the face of its layers and its rotation
-abbrev pub geometric : Move → GeometricMove
-geometric m = record {
-  given = m;
-  face = kindFace (m .kind);
-  rotation = turnOf (m .turn) (quarterOf (kindFace (m .kind)));
-}
-
-abbrev pub turnedBy : ℕ → GeometricMove → Pos → Pos
-turnedBy n g p = via n (g .face) (takes n (g .given)) (g .rotation) p
+-- the rotation that a move makes
+abbrev pub rotationOf : Move → Rotation
+rotationOf m = turnOf (m .turn) (quarterOf (kindFace (m .kind)))
 
 -- where a move brings the sticker at p
 abbrev pub turned : ℕ → Move → Pos → Pos
-turned n m p = turnedBy n (geometric m) p
+turned n m p = via n (kindFace (m .kind)) (takes n m) (rotationOf m) p
 
 -- the same for stored places
 unfoldable pub target : ℕ → Move → ℕ → ℕ
@@ -157,13 +148,3 @@ moved n m l = tabulate (stickers n) (λ j. getD l (source n m j) 0)
 unfoldable pub run : ℕ → List ℕ → List ℕ → List ℕ
 run n [] l = l
 run n (c ∷ cs) l = run n cs (moved n (moveOf c) l)
-
--- 11: a turned position lies on no face
-abbrev pub offAt : ℕ → GeometricMove → ℕ → Bool
-offAt n g j = not (isOn (side n (turnedBy n g (place n j))))
-
-abbrev pub offFace : ℕ → Move → Bool
-offFace n m = anyBelow (offAt n (geometric m)) (stickers n)
-
-unfoldable pub listOff : ℕ → List ℕ → Bool
-listOff n cs = any (λ c. offFace n (moveOf c)) cs

@@ -11,7 +11,7 @@ use lib.Dec.{eqb, ltb, leb}
 use lib.ListN.{length, getD, drop, drop-of-length-le}
 use lib.Seq.{drop-cons}
 use borrow.Author.Tests.{eq-eqb, ne-eqb, eqb-true, eqb-false, not-false, ltb-true, ltb-false, leb-true, le-leb, lt-leb}
-use Rattle.ground.specs.Choice.{pick, between, any, all, position, anyBelow}
+use Rattle.ground.specs.Choice.{pick, between, any, all, position}
 
 -- a test is true or false
 pub bool-cases {ℓ} : {A : Type ℓ} (t : Bool) → (t ≡ true → A) → (t ≡ false → A) → A
@@ -80,12 +80,6 @@ any-none p (x ∷ xs) e zero h = bool-cases (p x) (λ t. absurd (true≢false (r
 any-none p (x ∷ xs) e (suc i) h =
     any-none p xs (bool-cases (p x) (λ t. absurd (true≢false (rw t at e))) (λ t. rw t at e)) i (omega arith)
 
--- where it fails of every number, it holds of none
-pub any-never : (p : ℕ → Bool) → ((x : ℕ) → p x ≡ false) → (xs : List ℕ) → any p xs ≡ false
-unfolding any
-any-never p f [] = refl
-any-never p f (x ∷ xs) = rw (f x) (any-never p f xs)
-
 pub any-append : (p : ℕ → Bool) (xs ys : List ℕ) → any p xs ≡ false → any p ys ≡ false → any p (xs ++ ys) ≡ false
 unfolding any
 any-append p [] ys e d = d
@@ -145,6 +139,11 @@ pub position-one : (a b : ℕ) (xs : List ℕ) → List·Memᴰ a xs → List·M
 position-one a b xs ma mb e =
     sym (position-found a xs (position-below a xs ma)) ∙ ap (λ i. getD xs i 0) e ∙ position-found b xs (position-below b xs mb)
 
+-- whether the test holds of a number below m
+unfoldable pub anyBelow : (ℕ → Bool) → ℕ → Bool
+anyBelow p zero = false
+anyBelow p (suc m) = pick (p m) true (anyBelow p m)
+
 pub below-found : (p : ℕ → Bool) (j m : ℕ) → j < m → p j ≡ true → anyBelow p m ≡ true
 unfolding anyBelow
 below-found p j zero h t = absurd (omega arith)
@@ -161,8 +160,3 @@ below-none p m e j h = bool-cases (p j) (λ t. absurd (true≢false (sym (below-
 -- a rule that a computed test shows of every number below m
 pub tested : (p : ℕ → Bool) (m : ℕ) → anyBelow (λ i. not (p i)) m ≡ false → (i : ℕ) → i < m → p i ≡ true
 tested p m e i h = not-false (p i) (below-none (λ k. not (p k)) m e i h)
-
-pub below-never : (p : ℕ → Bool) → ((j : ℕ) → p j ≡ false) → (m : ℕ) → anyBelow p m ≡ false
-unfolding anyBelow
-below-never p f zero = refl
-below-never p f (suc m) = rw (f m) (below-never p f m)

@@ -27,8 +27,3 @@ all p (x ∷ xs) = pick (p x) (all p xs) false
 unfoldable pub position : ℕ → List ℕ → ℕ
 position b [] = 0
 position b (x ∷ xs) = pick (eqb x b) 0 (suc (position b xs))
-
--- whether the test holds of a number below m
-unfoldable pub anyBelow : (ℕ → Bool) → ℕ → Bool
-anyBelow p zero = false
-anyBelow p (suc m) = pick (p m) true (anyBelow p m)

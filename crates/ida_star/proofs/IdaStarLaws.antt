@@ -15,7 +15,6 @@ use Rattle.ground.proofs.RefusalLaws.{passed, pass-lowest, lowest-front, lowest
 use Rattle.generic_cube.specs.Sizes.{small, beyond, stickers}
 use Rattle.generic_cube.specs.Code.{listRows, listRefusal}
 use Rattle.generic_cube.proofs.CodeLaws.{small-bounds, small-cube, in-reach}
-use Rattle.geometric_moves.specs.Turn.{listOff}
 use Rattle.table.specs.Table.{wellFormed}
 use Rattle.search_theory.specs.Search.{Reply}
 use Rattle.search_theory.specs.CubeSearch.{CubeSearch}
@@ -62,7 +61,7 @@ module _ (q : CubeSearch) (work out : ℕ) (sized : not (small (q .n)) ≡ false
   abbrev laterRows : List Row
   laterRows =
       6 when ltb out (q .limit) ∷ 7 when beyond (length (q .candidates)) (q .limit) (q .depth) ∷
-      8 when not (wellFormed (stickers (q .n)) (q .table)) ∷ 9 when ltb work (levels (q .n) (q .limit)) ∷ 11 when listOff (q .n) (q .candidates) ∷ []
+      8 when not (wellFormed (stickers (q .n)) (q .table)) ∷ 9 when ltb work (levels (q .n) (q .limit)) ∷ []
 
   search-list : searchRefusal q work out ≡ lowest (listRows (q .n) (q .candidates) ++ laterRows)
   unfolding searchRefusal lowest
@@ -73,7 +72,7 @@ module _ (q : CubeSearch) (work out : ℕ) (sized : not (small (q .n)) ≡ false
   search-listed e h = sym (search-list ∙ lowest-front (listRows (q .n) (q .candidates)) laterRows (λ z. h (e ∙ z)) ∙ sym e)
 
   pub search-behind : listRefusal (q .n) (q .candidates) ≡ 0
-      → searchRefusal q work out ≡ pick (ltb out (q .limit)) 6 (pick (beyond (length (q .candidates)) (q .limit) (q .depth)) 7 (lateRefusal (q .n) (q .table) (q .candidates) (q .limit) work))
+      → searchRefusal q work out ≡ pick (ltb out (q .limit)) 6 (pick (beyond (length (q .candidates)) (q .limit) (q .depth)) 7 (lateRefusal (q .n) (q .table) (q .limit) work))
   unfolding listRefusal lowest lateRefusal
   search-behind e =
       search-list ∙ lowest-behind (listRows (q .n) (q .candidates)) laterRows (passed (listRows (q .n) (q .candidates)) refl e)

@@ -11,7 +11,6 @@ use Rattle.ground.specs.Refusals.{Row, _when_, lowest}
 use Rattle.generic_cube.specs.Sizes.{small, beyond, stickers}
 use Rattle.generic_cube.specs.Answers.{unless}
 use Rattle.generic_cube.specs.Code.{listRows}
-use Rattle.geometric_moves.specs.Turn.{listOff}
 use Rattle.table.specs.Table.{wellFormed}
 use Rattle.search_theory.specs.Search.{Reply, none, found, ida}
 use Rattle.search_theory.specs.CubeSearch.{CubeSearch, taskOf}
@@ -27,13 +26,13 @@ abbrev pub levels : ℕ → ℕ → ℕ
 levels n limit = (limit + 1) * stickers n
 
 -- 1: the size; 2: the cube isn't 6n² long; 3, 5: the list; 6: the output is too short; 7: too many candidates, or limit or depth too high;
--- 8: the table isn't whole entries with strictly rising keys; 9: the work area is too short; 11: a turned position lies on no face. The
--- work area and the output by their lengths.
+-- 8: the table isn't whole entries with strictly rising keys; 9: the work area is too short. The work area and the output
+-- by their lengths.
 abbrev pub searchRows : CubeSearch → ℕ → ℕ → List Row
 searchRows q work out =
     1 when not (small (q .n)) ∷ 2 when not (eqb (length (q .cube)) (stickers (q .n))) ∷
     (listRows (q .n) (q .candidates) ++ (6 when ltb out (q .limit) ∷ 7 when beyond (length (q .candidates)) (q .limit) (q .depth) ∷
-    8 when not (wellFormed (stickers (q .n)) (q .table)) ∷ 9 when ltb work (levels (q .n) (q .limit)) ∷ 11 when listOff (q .n) (q .candidates) ∷ []))
+    8 when not (wellFormed (stickers (q .n)) (q .table)) ∷ 9 when ltb work (levels (q .n) (q .limit)) ∷ []))
 
 unfoldable pub searchRefusal : CubeSearch → ℕ → ℕ → ℕ
 searchRefusal q work out = lowest (searchRows q work out)

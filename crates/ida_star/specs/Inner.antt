@@ -4,7 +4,6 @@ use mathlib.Core.Path.{_≡_}
 use mathlib.Core.Bool.{true, false, not}
 use lib.Dec.{ltb}
 use Rattle.ground.specs.Refusals.{_when_, lowest}
-use Rattle.geometric_moves.specs.Turn.{listOff}
 use mathlib.Core.List.{List, [], _∷_, _++_}
 use lib.ListN.{length, take, drop}
 use Rattle.generic_cube.specs.Sizes.{stickers}
@@ -86,13 +85,11 @@ pub record PassesTold (reply : Reply) (out out′ : List ℕ) (r : Outcome) : Ty
   pub written : out′ ≡ outputOf reply out
 
 -- what is known once the refusals below 8 are past
-pub record Late (n : ℕ) (moves : List ℕ) (limit : ℕ) : Type 0 where
+pub record Late (n limit : ℕ) : Type 0 where
   pub some : 1 ≤ n
   pub size : n ≤ 7
   pub low : limit ≤ 20
-  pub listed : listRefusal n moves ≡ 0
 
--- refusals 8, 9 and 11: the table, the work area and the turns
-unfoldable pub lateRefusal : ℕ → List ℕ → List ℕ → ℕ → ℕ → ℕ
-lateRefusal n table moves limit work =
-    lowest (8 when not (wellFormed (stickers n) table) ∷ 9 when ltb work (levels n limit) ∷ 11 when listOff n moves ∷ [])
+-- refusals 8 and 9: the table and the work area
+unfoldable pub lateRefusal : ℕ → List ℕ → ℕ → ℕ → ℕ
+lateRefusal n table limit work = lowest (8 when not (wellFormed (stickers n) table) ∷ 9 when ltb work (levels n limit) ∷ [])

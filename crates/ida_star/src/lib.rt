@@ -188,10 +188,10 @@ fn rise(
     Outcome::Nothing
 }
 
-// Refusals 8, 9 and 11, of the table, the work area and the turns.
-fn late_refusal(n: usize, table: &[u8], moves: &[MoveCode], limit: usize, work: usize) -> u8
-    requires { ⌜ Late n (now moves) limit ⌝ }
-    ensures { λ r. ⌜ r ≡ lateRefusal n (now (table .entry)) (now (moves .entry)) limit work ⌝ }
+// Refusals 8 and 9, of the table and the work area.
+fn late_refusal(n: usize, table: &[u8], limit: usize, work: usize) -> u8
+    requires { ⌜ Late n limit ⌝ }
+    ensures { λ r. ⌜ r ≡ lateRefusal n (now (table .entry)) limit work ⌝ }
 {
     let s = 6 * n * n;
     if !table::is_well_formed(table, s) {
@@ -199,9 +199,6 @@ fn late_refusal(n: usize, table: &[u8], moves: &[MoveCode], limit: usize, work: 
     }
     if work < (limit + 1) * s {
         return 9;
-    }
-    if geometric_moves::list_off(n, moves) {
-        return 11;
     }
     0
 }
@@ -235,7 +232,7 @@ fn search_refusal(
     if generic_cube::is_beyond(moves.len(), limit, depth) {
         return 7;
     }
-    late_refusal(n, table, moves, limit, work)
+    late_refusal(n, table, limit, work)
 }
 
 // A shortest allowed list of candidates that leads the cube to a goal of the table, if the table's numbers are admissible.

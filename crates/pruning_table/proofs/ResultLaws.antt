@@ -14,7 +14,6 @@ use Rattle.generic_cube.specs.declared.Answer.the-variants.{Value, Refused}
 use Rattle.generic_cube.specs.Sizes.{small, beyond, stickers}
 use Rattle.generic_cube.specs.Code.{listRows, listRefusal}
 use Rattle.generic_cube.proofs.CodeLaws.{small-bounds, in-reach}
-use Rattle.geometric_moves.specs.Turn.{listOff}
 use Rattle.table.specs.Table.{entryCount}
 use Rattle.search_theory.specs.CubeSearch.{movedBy}
 use Rattle.table_theory.specs.Built.{tableOf, startsOf}
@@ -39,9 +38,9 @@ early-ready n starts moves depth e =
       shallow = reach .shallow;
     }
 
--- where the sizes are in order the list's rows answer, and then rows 7 and 11
+-- where the sizes are in order the list's rows answer, and then row 7
 module _ (n starts : ℕ) (moves : List ℕ) (depth : ℕ) (sized : not (small n) ≡ false) (whole : starts % stickers n ≡ 0) where
-  early-list : earlyRefusal n starts moves depth ≡ lowest (listRows n moves ++ (7 when beyond (length moves) 0 depth ∷ 11 when listOff n moves ∷ []))
+  early-list : earlyRefusal n starts moves depth ≡ lowest (listRows n moves ++ (7 when beyond (length moves) 0 depth ∷ []))
   unfolding earlyRefusal lowest
   early-list = rw (sized, eq-eqb _ _ whole)
 
@@ -49,11 +48,11 @@ module _ (n starts : ℕ) (moves : List ℕ) (depth : ℕ) (sized : not (small n
   unfolding listRefusal
   early-listed e h = sym (early-list ∙ lowest-front (listRows n moves) _ (λ z. h (e ∙ z)) ∙ sym e)
 
-  pub early-behind : listRefusal n moves ≡ 0 → earlyRefusal n starts moves depth ≡ pick (beyond (length moves) 0 depth) 7 (pick (listOff n moves) 11 0)
+  pub early-behind : listRefusal n moves ≡ 0 → earlyRefusal n starts moves depth ≡ pick (beyond (length moves) 0 depth) 7 0
   unfolding listRefusal lowest
   early-behind e =
       early-list
-      ∙ lowest-behind (listRows n moves) (7 when beyond (length moves) 0 depth ∷ 11 when listOff n moves ∷ []) (passed (listRows n moves) refl e)
+      ∙ lowest-behind (listRows n moves) (7 when beyond (length moves) 0 depth ∷ []) (passed (listRows n moves) refl e)
 
 -- an early refusal is given, and where there is none it is 6 or nothing
 module _ (n : ℕ) (starts moves : List ℕ) (depth : ℕ) (t : List ℕ) where

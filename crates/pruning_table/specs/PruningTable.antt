@@ -12,16 +12,15 @@ use Rattle.generic_cube.specs.declared.Answer.{Answer}
 use Rattle.generic_cube.specs.Sizes.{small, beyond, stickers}
 use Rattle.generic_cube.specs.Answers.{answer, unless}
 use Rattle.generic_cube.specs.Code.{listRows}
-use Rattle.geometric_moves.specs.Turn.{listOff}
 use Rattle.table.specs.Table.{bytes, entryCount}
 use Rattle.table_theory.specs.Built.{tableOf}
 
 -- 1: the size; 2: starting cubes aren't a whole number of cubes (here by their length); 3, 5: the list; 7: too many candidates or too
--- deep; 11: a turned position lies on no face
+-- deep
 abbrev pub earlyRows : ℕ → ℕ → List ℕ → ℕ → List Row
 earlyRows n starts moves depth =
     1 when not (small n) ∷ 2 when not (eqb (starts % stickers n) 0) ∷
-    (listRows n moves ++ (7 when beyond (length moves) 0 depth ∷ 11 when listOff n moves ∷ []))
+    (listRows n moves ++ (7 when beyond (length moves) 0 depth ∷ []))
 
 unfoldable pub earlyRefusal : ℕ → ℕ → List ℕ → ℕ → ℕ
 earlyRefusal n starts moves depth = lowest (earlyRows n starts moves depth)

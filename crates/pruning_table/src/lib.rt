@@ -66,9 +66,6 @@ fn early_refusal(n: usize, starts: usize, moves: &[MoveCode], depth: usize) -> u
     if generic_cube::is_beyond(moves.len(), 0, depth) {
         return 7;
     }
-    if geometric_moves::list_off(n, moves) {
-        return 11;
-    }
     0
 }
 

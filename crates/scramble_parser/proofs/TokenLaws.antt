@@ -7,9 +7,9 @@ use native.Mathlib.Omega.{arith}
 use lib.ListN.{length, getD}
 use lib.Dec.{ltb, leb, eqb}
 use borrow.Author.Tests.{eq-eqb, ne-eqb, le-ltb, lt-leb, le-leb, eqb-true, eqb-false, ltb-true, ltb-false, leb-false, not-false}
-use Rattle.ground.specs.Choice.{pick, position, between, anyBelow}
+use Rattle.ground.specs.Choice.{pick, position, between}
 use Rattle.ground.specs.Refusals.{lowest}
-use Rattle.ground.proofs.ChoiceLaws.{bool-cases, between-bounds, bounds-between, under-between, over-between, tested}
+use Rattle.ground.proofs.ChoiceLaws.{anyBelow, bool-cases, between-bounds, bounds-between, under-between, over-between, tested}
 use Rattle.ground.proofs.RefusalLaws.{passed, pass-lowest}
 use Rattle.generic_cube.specs.Code.{move, codeOf, isWide, badCode, outside}
 use Rattle.generic_cube.specs.declared.Move.{Move}

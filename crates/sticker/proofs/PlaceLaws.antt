@@ -10,13 +10,7 @@ use Rattle.ground.specs.Choice.{pick}
 use Rattle.ground.proofs.ChoiceLaws.{bool-cases}
 use Rattle.sticker.specs.declared.Face.{Face}
 use Rattle.sticker.specs.declared.Face.the-variants.{U, R, F, D, L, B}
-use Rattle.sticker.specs.declared.Side.{Side}
-use Rattle.sticker.specs.declared.Side.the-variants.{On, Nowhere}
-use Rattle.sticker.specs.declared.Pos.{Pos}
-use Rattle.sticker.specs.declared.Slot.{Slot}
-use Rattle.sticker.specs.declared.Found.the-variants.{At, NoFace}
-use Rattle.sticker.specs.Place.{top, bot, neg, mid, numOf, nthFace, seat, placeOf, side, isOn, faceOn, faceOf, colOn, rowOn, slotOn, slotOf, flat, unflat, place, index, InCube}
-use Rattle.sticker.specs.Inner.{foundAt}
+use Rattle.sticker.specs.Place.{Pos, Slot, top, bot, neg, mid, numOf, nthFace, seat, placeOf, faceOf, colOn, rowOn, slotOn, slotOf, flat, unflat, place, index, InCube}
 
 -- a coordinate within the face is neither n nor -n, and neither is its negation
 mid-top : (n c : ℕ) → eqb (mid c) (top n) ≡ false
@@ -38,13 +32,13 @@ bot-top : (n : ℕ) → 0 < n → eqb bot (top n) ≡ false
 bot-top n h = ne-eqb bot (top n) (omega arith)
 
 -- a sticker's place lies on the face it was made for
-side-seat : (n : ℕ) (f : Face) (c r : ℕ) → c < n → r < n → side n (seat n f (mid c) (mid r)) ≡ On f
-side-seat n U c r hc hr = simp (mid-top n c, mid-bot c, top-top n)
-side-seat n R c r hc hr = simp (top-top n)
-side-seat n F c r hc hr = simp (mid-top n c, mid-bot c, neg-top n r hr, neg-bot n r hr, top-top n)
-side-seat n D c r hc hr = let h : 0 < n = omega arith in simp (mid-top n c, mid-bot c, bot-top n h)
-side-seat n L c r hc hr = let h : 0 < n = omega arith in simp (bot-top n h)
-side-seat n B c r hc hr =
+pub face-seat : (n : ℕ) (f : Face) (c r : ℕ) → c < n → r < n → faceOf n (seat n f (mid c) (mid r)) ≡ f
+face-seat n U c r hc hr = simp (mid-top n c, mid-bot c, top-top n)
+face-seat n R c r hc hr = simp (top-top n)
+face-seat n F c r hc hr = simp (mid-top n c, mid-bot c, neg-top n r hr, neg-bot n r hr, top-top n)
+face-seat n D c r hc hr = let h : 0 < n = omega arith in simp (mid-top n c, mid-bot c, bot-top n h)
+face-seat n L c r hc hr = let h : 0 < n = omega arith in simp (bot-top n h)
+face-seat n B c r hc hr =
     let h : 0 < n = omega arith in simp (neg-top n c hc, neg-bot n c hc, neg-top n r hr, neg-bot n r hr, bot-top n h)
 
 col-seat : (n : ℕ) (f : Face) (c r : ℕ) → c < n → r < n → colOn n f (seat n f (mid c) (mid r)) / 2 ≡ c
@@ -72,7 +66,7 @@ pos-eq p q a b c = λ i. record { x = a i; y = b i; z = c i }
 -- `slotOf` undoes `placeOf`
 pub slot-place : (n : ℕ) (s : Slot) → s .col < n → s .row < n → slotOf n (placeOf n s) ≡ s
 slot-place n s hc hr =
-    let e : faceOf n (placeOf n s) ≡ s .face = ap faceOn (side-seat n (s .face) (s .col) (s .row) hc hr) in
+    let e : faceOf n (placeOf n s) ≡ s .face = face-seat n (s .face) (s .col) (s .row) hc hr in
     slot-eq _ _ e
     (ap (λ f. colOn n f (placeOf n s) / 2) e ∙ col-seat n (s .face) (s .col) (s .row) hc hr)
     (ap (λ f. rowOn n f (placeOf n s) / 2) e ∙ row-seat n (s .face) (s .col) (s .row) hc hr)
@@ -172,17 +166,6 @@ index-place n j h hj =
 pub room : (n : ℕ) → n ≤ 104 → 6 * n * n ≤ 64896
 room n h = mul-le-mul (mul-le-mul-left 6 h) h
 
--- no step of `flat` goes far past the largest index
-pub record FlatRoom (n k row col : ℕ) : Type 0 where
-  pub line : k * n + row ≤ 6 * n
-  pub whole : (k * n + row) * n + col ≤ 6 * n * n + n
-  pub small : 6 * n * n ≤ 64896
-
-pub flat-room : (n k row col : ℕ) → n ≤ 104 → k < 6 → row ≤ n → col ≤ n → FlatRoom n k row col
-flat-room n k row col h hk hr hc =
-    let a : k * n + row ≤ 6 * n = omega (arith, mul-le-mul-right n hk, suc-mul k n) in
-    record { line = a; whole = omega (arith, mul-le-mul-right n a); small = room n h }
-
 pub number-below : (f : Face) (k : ℕ) → k ≡ numOf f → k < 6
 number-below f k e = omega (arith, num-below f)
 
@@ -200,43 +183,3 @@ sticker-in n p s =
 
 pub face-number : (n j : ℕ) → 0 < n → j < 6 * n * n → j / n / n < 6
 face-number n j h hj = div-lt-iff-lt-mul h .1 (div-lt-iff-lt-mul h .1 hj)
-
--- a sticker's place lies on a face
-pub sticker-on : (n : ℕ) (p : Pos) → Sticker n p → isOn (side n p) ≡ true
-sticker-on n p s =
-    subst (λ (q : Pos). isOn (side n q) ≡ true) (s .here)
-    (ap isOn (side-seat n (s .slot .face) (s .slot .col) (s .slot .row) (s .real .col-ok) (s .real .row-ok)))
-
--- what finding a position comes to, from the face it lies on
-module _ (n : ℕ) (p : Pos) where
-  pub found-at : {f : Face} {s : Slot} {k : ℕ} → On f ≡ side n p → s ≡ slotOn n p f → k ≡ (numOf f * n + s .row) * n + s .col
-      → At k ≡ foundAt n p
-  found-at {f} {s} {k} a b e =
-      subst (λ (q : Side). At k ≡ pick (isOn q) (At (flat n (slotOn n p (faceOn q)))) NoFace) a
-      (ap At (e ∙ ap (λ (t : Slot). (numOf f * n + t .row) * n + t .col) b))
-
-  pub found-none : Nowhere ≡ side n p → NoFace ≡ foundAt n p
-  found-none a = subst (λ (q : Side). NoFace ≡ pick (isOn q) (At (flat n (slotOn n p (faceOn q)))) NoFace) a refl
-
--- a row and a column within the cube
-pub record Small (n : ℕ) (s : Slot) : Type 0 where
-  pub row-most : s .row ≤ n
-  pub col-most : s .col ≤ n
-
-slot-in : (n : ℕ) (p : Pos) (f : Face) → InCube n p → Small n (slotOn n p f)
-slot-in n p U h = omega arith
-slot-in n p R h = omega arith
-slot-in n p F h = omega arith
-slot-in n p D h = omega arith
-slot-in n p L h = omega arith
-slot-in n p B h = omega arith
-
-pub slot-small : (n : ℕ) (p : Pos) (f : Face) (s : Slot) → InCube n p → s ≡ slotOn n p f → Small n s
-slot-small n p f s h e = subst (Small n) (sym e) (slot-in n p f h)
-
--- where no index is found, the position is on no face
-pub found-off : (n : ℕ) (p : Pos) → NoFace ≡ foundAt n p → isOn (side n p) ≡ false
-found-off n p e =
-    bool-cases (isOn (side n p))
-    (λ t. let q : NoFace ≡ At (index n p) = rw t at e in let z : _≡_ {A = ℕ} 0 1 = cc in absurd (omega arith))
-    (λ t. t)

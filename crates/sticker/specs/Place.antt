@@ -1,15 +1,22 @@
 -- Places of stickers. The rules write a coordinate between -n and n; here n is added to each, so that all are natural numbers:
 -- their n is `top n`, their -n is `bot`, their -x is `neg n x`, and their -n+1, -n+3, .., n-1 are `mid 0`, `mid 1`, .., `mid (n - 1)`.
 use Prim.Native.Nat.{ℕ, zero, suc, _+_, _-_, _*_, _/_, _%_, _≤_}
-use mathlib.Core.Bool.{Bool, true, false}
 use lib.Dec.{eqb}
 use Rattle.ground.specs.Choice.{pick}
 use Rattle.sticker.specs.declared.Face.{Face}
 use Rattle.sticker.specs.declared.Face.the-variants.{U, R, F, D, L, B}
-use Rattle.sticker.specs.declared.Pos.{Pos}
-use Rattle.sticker.specs.declared.Slot.{Slot}
-use Rattle.sticker.specs.declared.Side.{Side}
-use Rattle.sticker.specs.declared.Side.the-variants.{On, Nowhere}
+
+-- a position
+pub record Pos : Type 0 where
+  pub x : ℕ
+  pub y : ℕ
+  pub z : ℕ
+
+-- a place as it is stored
+pub record Slot : Type 0 where
+  pub face : Face
+  pub row : ℕ
+  pub col : ℕ
 
 abbrev pub top : ℕ → ℕ
 top n = 2 * n
@@ -32,27 +39,14 @@ pub record InCube (n : ℕ) (p : Pos) : Type 0 where
   pub y-in : p .y ≤ top n
   pub z-in : p .z ≤ top n
 
--- x=n R, x=-n L, y=n U, y=-n D, z=n F, z=-n B
-abbrev pub side : ℕ → Pos → Side
-side n p =
-    pick (eqb (p .x) (top n)) (On R)
-    (pick (eqb (p .x) bot) (On L)
-    (pick (eqb (p .y) (top n)) (On U)
-    (pick (eqb (p .y) bot) (On D)
-    (pick (eqb (p .z) (top n)) (On F)
-    (pick (eqb (p .z) bot) (On B) Nowhere)))))
-
--- whether a position lies on a face, and that face; where it lies on none the second is not asked
-abbrev pub isOn : Side → Bool
-isOn (On f) = true
-isOn Nowhere = false
-
-abbrev pub faceOn : Side → Face
-faceOn (On f) = f
-faceOn Nowhere = B
-
+-- x=n R, x=-n L, y=n U, y=-n D, z=n F, z=-n B: the face of a sticker's place, which lies on exactly one
 abbrev pub faceOf : ℕ → Pos → Face
-faceOf n p = faceOn (side n p)
+faceOf n p =
+    pick (eqb (p .x) (top n)) R
+    (pick (eqb (p .x) bot) L
+    (pick (eqb (p .y) (top n)) U
+    (pick (eqb (p .y) bot) D
+    (pick (eqb (p .z) (top n)) F B))))
 
 -- faces are stored in the order U R F D L B
 abbrev pub numOf : Face → ℕ

@@ -61,13 +61,13 @@ lowest-most m (r ∷ rows) e =
     (λ t. bool-cases (r .applies) (λ u. rw u (leb-true (r .number) m t)) (λ u. rw u (lowest-most m rows (rw t at e))))
     (λ t. absurd (true≢false (sym (rw t at e))))
 
-early-most : (n starts : ℕ) (moves : List ℕ) (depth : ℕ) → earlyRefusal n starts moves depth ≤ 11
+early-most : (n starts : ℕ) (moves : List ℕ) (depth : ℕ) → earlyRefusal n starts moves depth ≤ 255
 unfolding earlyRefusal
-early-most n starts moves depth = lowest-most 11 (earlyRows n starts moves depth) refl
+early-most n starts moves depth = lowest-most 255 (earlyRows n starts moves depth) refl
 
-search-most : (q : CubeSearch) (work out : ℕ) → searchRefusal q work out ≤ 11
+search-most : (q : CubeSearch) (work out : ℕ) → searchRefusal q work out ≤ 255
 unfolding searchRefusal
-search-most q work out = lowest-most 11 (searchRows q work out) refl
+search-most q work out = lowest-most 255 (searchRows q work out) refl
 
 -- ---- the builder's answer
 
@@ -113,7 +113,7 @@ record ReadRan (q : CubeSearch) (out′ : List ℕ) (r : ℕ) : Type 0 where
 module _ (q : CubeSearch) (work work′ out out′ : List ℕ) where
   -- an answer that is no refusal was given to a search that is taken
   search-ran {ℓ} : {A : Type ℓ} (a : Outcome) → IdaStarResult q work work′ out out′ a → (Ran q out′ a → A)
-      → ((k : ℕ) → a ≡ Outcome.Refused k → k ≤ 11 → (k ≡ 0 → ⊥) → A) → A
+      → ((k : ℕ) → a ≡ Outcome.Refused k → k ≤ 255 → (k ≡ 0 → ⊥) → A) → A
   search-ran a p f g =
       bool-cases (eqb (searchRefusal q (length work) (length out)) 0)
       (λ t. f (record { work = work; work′ = work′; out = out; taken = eqb-true _ _ t; result = p }))

@@ -9,9 +9,9 @@ use lib.ListN.{length, getD, take, drop, length-append, length-drop, take-append
 use lib.Seq.{drop-cons, getD-drop, getD-append-seam, getD-append-add}
 use lib.Dec.{ltb, eqb}
 use borrow.Author.Tests.{eq-eqb, ne-eqb, lt-ltb, eqb-true, not-true, not-false}
-use Rattle.ground.specs.Choice.{pick, any, anyBelow, position, between}
+use Rattle.ground.specs.Choice.{pick, any, position, between}
 use Rattle.ground.specs.Refusals.{lowest}
-use Rattle.ground.proofs.ChoiceLaws.{bool-cases, bounds-between, position-found, tested}
+use Rattle.ground.proofs.ChoiceLaws.{anyBelow, bool-cases, bounds-between, position-found, tested}
 use Rattle.generic_cube.specs.declared.Move.{Move}
 use Rattle.generic_cube.specs.Code.{move, moveOf, codeOf, isWide, badWidthIn}
 use Rattle.generic_cube.proofs.AllMovesLaws.{holds-at}

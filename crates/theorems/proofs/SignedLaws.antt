@@ -2,7 +2,7 @@
 use Prim.Native.Nat.{ℕ, zero, suc, _+_, _-_, _*_, _%_, _<_, _≤_}
 use mathlib.Core.Path.{_≡_, refl, ap, sym, subst, _∙_}
 use mathlib.Core.Bool.{true, true≢false, cond}
-use mathlib.Core.Logic.{_↔_}
+use mathlib.Core.Logic.{_↔_, inl, inr}
 use native.Mathlib.Omega.{arith}
 use native.Mathlib.Nat.{zero-add}
 use native.Mathlib.Decide.{decLt}
@@ -10,21 +10,18 @@ use lib.IntN.{ℤ, pos, negsuc, negℤ, subℕ, _+ℤ_}
 use borrow.Author.Tests.{lt-ltb, le-ltb, le-leb, leb-true}
 use Rattle.ground.proofs.ChoiceLaws.{bool-cases}
 use Rattle.generic_cube.specs.declared.Move.{Move}
+use Rattle.generic_cube.specs.Sizes.{stickers}
 use Rattle.generic_cube.specs.Code.{back}
 use Rattle.sticker.specs.declared.Face.{Face}
 use Rattle.sticker.specs.declared.Face.the-variants.{U, R, F, D, L, B}
-use Rattle.sticker.specs.declared.Pos.{Pos}
-use Rattle.sticker.specs.declared.Slot.{Slot}
-use Rattle.sticker.specs.declared.Side.{Side}
-use Rattle.sticker.specs.declared.Side.the-variants.{On, Nowhere}
-use Rattle.sticker.specs.Place.{top, bot, neg, mid, seat, side, isOn, faceOn, unflat, place, InCube}
-use Rattle.sticker.proofs.PlaceLaws.{slot-place, unflat-real, place-sticker, place-index, sticker-in, sticker-on}
+use Rattle.sticker.specs.Place.{Pos, Slot, top, bot, neg, mid, seat, faceOf, placeOf, flat, unflat, place, InCube}
+use Rattle.sticker.proofs.PlaceLaws.{Sticker, face-seat, unflat-flat, flat-below, unflat-real, place-sticker, place-index, sticker-in}
 use Rattle.geometric_moves.specs.declared.Rotation.{Rotation}
 use Rattle.geometric_moves.specs.Turn.{toward, rotate, sameFace, whither, inverseRot, turnOf, quarterOf, kindFace, layersOf, takes, turned, target, source}
 use Rattle.geometric_moves.proofs.RotationLaws.{rotate-then}
 use Rattle.geometric_moves.proofs.TurnLaws.{toward-within, turned-sticker, target-below, target-add, target-none}
 use Rattle.geometric_moves.proofs.MovedLaws.{moved-target}
-use Rattle.theorems.specs.Geometry.{signed, point, pointOf, AtMost, RowsRise, FacesStand, LiesOn, FacesTold, QuarterX, QuarterY, QuarterZ, quarterPoint, QuarterUndone, turnPoint, InLayers, LayersTaken, WholeTaken, TakenTurn, OthersStay, PlacesKept, StickersGo, EachIndexFixed}
+use Rattle.theorems.specs.Geometry.{signed, Point, point, pointOf, AtMost, RowsRise, FacesStand, Across, StickerPoint, PositionsStored, LiesOn, FacesTold, OneFace, QuarterX, QuarterY, QuarterZ, quarterPoint, QuarterUndone, turnPoint, InLayers, LayersTaken, WholeTaken, TakenTurn, OthersStay, TurnedOnOneFace, PlacesKept, StickersGo, EachIndexFixed}
 
 -- differences of natural numbers as whole numbers
 
@@ -193,23 +190,90 @@ no-other n B D c r hc hr e = absurd (omega arith)
 no-other n B L c r hc hr e = absurd (omega arith)
 no-other n B B c r hc hr e = refl
 
-on-side : (x : Side) {f : Face} → isOn x ≡ true → faceOn x ≡ f → x ≡ On f
-on-side (On g) t e = ap On e
-on-side Nowhere t e = absurd (true≢false (sym t))
-
 pub faces-told : FacesTold
 faces-told n j f h =
     let s : Slot = unflat n j in
     let real = unflat-real n j h in
-    let here = place-sticker n j h in
-    let inside = sticker-in n (place n j) here in
-    let on : side n (place n j) ≡ On (s .face)
-    = on-side (side n (place n j)) (sticker-on n (place n j) here) (ap (λ (x : Slot). x .face) (slot-place n s (real .col-ok) (real .row-ok))) in (
-      λ e.
-          let is : s .face ≡ f = cc in
-          toward-lies n (place n j) inside f (subst (λ (g : Face). toward n (place n j) g ≡ top n) is (own-toward n (s .face) (s .col) (s .row))),
-      λ l. on ∙ ap On (no-other n f (s .face) (s .col) (s .row) (real .col-ok) (real .row-ok) (lies-toward n (place n j) inside f l)),
+    let inside = sticker-in n (place n j) (place-sticker n j h) in
+    let on : faceOf n (place n j) ≡ s .face = face-seat n (s .face) (s .col) (s .row) (real .col-ok) (real .row-ok) in (
+      λ e. toward-lies n (place n j) inside f (subst (λ (g : Face). toward n (place n j) g ≡ top n) (sym on ∙ e) (own-toward n (s .face) (s .col) (s .row))),
+      λ l. on ∙ no-other n f (s .face) (s .col) (s .row) (real .col-ok) (real .row-ok) (lies-toward n (place n j) inside f l),
     )
+
+-- a sticker's place is a sticker's position, and lies on one face alone
+
+module _ (n k : ℕ) (h : k < n) where
+  across : Across n (signed n (mid k))
+  across = record { line = k; below = h; is = rows-rise n k }
+
+  across-neg : Across n (signed n (neg n (mid k)))
+  across-neg =
+      record { line = n - 1 - k; below = omega arith; is = ap (signed n) {x = neg n (mid k)} {y = mid (n - 1 - k)} (omega arith) ∙ rows-rise n (n - 1 - k) }
+
+seat-point : (n : ℕ) (f : Face) (c r : ℕ) → c < n → r < n → StickerPoint n (pointOf n (seat n f (mid c) (mid r)))
+seat-point n U c r hc hr = inr (inl (across n c hc, inl (signed-top n), across n r hr))
+seat-point n R c r hc hr = inl (inl (signed-top n), across-neg n r hr, across-neg n c hc)
+seat-point n F c r hc hr = inr (inr (across n c hc, across-neg n r hr, inl (signed-top n)))
+seat-point n D c r hc hr = inr (inl (across n c hc, inr (signed-bot n), across-neg n r hr))
+seat-point n L c r hc hr = inl (inr (signed-bot n), across-neg n r hr, across n c hc)
+seat-point n B c r hc hr = inr (inr (across-neg n c hc, across-neg n r hr, inr (signed-bot n)))
+
+seat-one : (n : ℕ) (f : Face) (c r : ℕ) → c < n → r < n → InCube n (seat n f (mid c) (mid r)) → OneFace n (pointOf n (seat n f (mid c) (mid r)))
+seat-one n f c r hc hr h =
+    let p : Pos = seat n f (mid c) (mid r) in
+    record {
+      face = f;
+      on = toward-lies n p h f (own-toward n f c r);
+      only = λ g l. sym (no-other n g f c r hc hr (lies-toward n p h g l));
+    }
+
+sticker-one : (n : ℕ) (p : Pos) → Sticker n p → StickerPoint n (pointOf n p) × OneFace n (pointOf n p)
+sticker-one n p s =
+    let t : Slot = s .slot in
+    let h : InCube n (seat n (t .face) (mid (t .col)) (mid (t .row))) = subst (InCube n) (sym (s .here)) (sticker-in n p s) in
+    subst (λ (q : Pos). StickerPoint n (pointOf n q) × OneFace n (pointOf n q)) (s .here)
+    (seat-point n (t .face) (t .col) (t .row) (s .real .col-ok) (s .real .row-ok), seat-one n (t .face) (t .col) (t .row) (s .real .col-ok) (s .real .row-ok) h)
+
+-- and each such position is the place of an index
+
+module _ {n : ℕ} {a : ℤ} (h : Across n a) where
+  straight : signed n (mid (h .line)) ≡ a
+  straight = rows-rise n (h .line) ∙ sym (h .is)
+
+  -- the line counted from the other end, negated
+  abbrev back-line : ℕ
+  back-line = n - 1 - h .line
+
+  back-below : back-line < n
+  back-below = omega (arith, h .below)
+
+  negated : signed n (neg n (mid back-line)) ≡ a
+  negated = ap (signed n) {x = neg n (mid back-line)} {y = mid (h .line)} (omega (arith, h .below)) ∙ straight
+
+-- the index of the sticker in column c and row r of face f
+stored : {n : ℕ} {q : Point} (f : Face) (c r : ℕ) → c < n → r < n → pointOf n (seat n f (mid c) (mid r)) ≡ q
+    → (j : ℕ) × (j < stickers n) × (pointOf n (place n j) ≡ q)
+stored {n} f c r hc hr e =
+    let s : Slot = record { face = f; row = r; col = c } in
+    (flat n s, flat-below n s hc hr, ap (λ (t : Slot). pointOf n (placeOf n t)) (unflat-flat n s hc hr) ∙ e)
+
+point-stored : (n : ℕ) (q : Point) → StickerPoint n q → (j : ℕ) × (j < stickers n) × (pointOf n (place n j) ≡ q)
+point-stored n q (inl (inl e, y, z)) =
+    stored R (back-line z) (back-line y) (back-below z) (back-below y) (λ i. point ((signed-top n ∙ sym e) i) (negated y i) (negated z i))
+point-stored n q (inl (inr e, y, z)) =
+    stored L (z .line) (back-line y) (z .below) (back-below y) (λ i. point ((signed-bot n ∙ sym e) i) (negated y i) (straight z i))
+point-stored n q (inr (inl (x, inl e, z))) =
+    stored U (x .line) (z .line) (x .below) (z .below) (λ i. point (straight x i) ((signed-top n ∙ sym e) i) (straight z i))
+point-stored n q (inr (inl (x, inr e, z))) =
+    stored D (x .line) (back-line z) (x .below) (back-below z) (λ i. point (straight x i) ((signed-bot n ∙ sym e) i) (negated z i))
+point-stored n q (inr (inr (x, y, inl e))) =
+    stored F (x .line) (back-line y) (x .below) (back-below y) (λ i. point (straight x i) (negated y i) ((signed-top n ∙ sym e) i))
+point-stored n q (inr (inr (x, y, inr e))) =
+    stored B (back-line x) (back-line y) (back-below x) (back-below y) (λ i. point (negated x i) (negated y i) ((signed-bot n ∙ sym e) i))
+
+pub positions-stored : PositionsStored
+positions-stored n q h =
+    (point-stored n q, λ p. subst (StickerPoint n) (p .2) (sticker-one n (place n (p .0)) (place-sticker n (p .0) h) .0))
 
 -- ---- quarter turns
 
@@ -299,6 +363,9 @@ taken-turn n m p h l =
 pub others-stay : OthersStay
 others-stay n m p h l =
     bool-cases (takes n m (toward n p (kindFace (m .kind)))) (λ t. absurd (l (layers-taken n m p h .0 t))) (λ t. rw t)
+
+pub turned-on-one-face : TurnedOnOneFace
+turned-on-one-face n m j h = sticker-one n (turned n m (place n j)) (turned-sticker n m (place n j) (place-sticker n j h))
 
 pub places-kept : PlacesKept
 places-kept n m j h =

@@ -3,7 +3,7 @@
 use Prim.Native.Nat.{ℕ, zero, suc, _+_, _*_, _<_, _≤_}
 use mathlib.Core.Path.{_≡_}
 use mathlib.Core.Bool.{true}
-use mathlib.Core.Logic.{_↔_}
+use mathlib.Core.Logic.{_⊎_, _↔_}
 use mathlib.Core.List.{List}
 use lib.ListN.{getD}
 use lib.IntN.{ℤ, pos, negℤ, subℕ, _+ℤ_}
@@ -11,9 +11,7 @@ use Rattle.generic_cube.specs.declared.Move.{Move}
 use Rattle.generic_cube.specs.Sizes.{stickers}
 use Rattle.sticker.specs.declared.Face.{Face}
 use Rattle.sticker.specs.declared.Face.the-variants.{U, R, F, D, L, B}
-use Rattle.sticker.specs.declared.Pos.{Pos}
-use Rattle.sticker.specs.declared.Side.the-variants.{On}
-use Rattle.sticker.specs.Place.{top, mid, seat, side, place, index, InCube}
+use Rattle.sticker.specs.Place.{Pos, top, mid, seat, faceOf, place, index, InCube}
 use Rattle.geometric_moves.specs.declared.Rotation.{Rotation}
 use Rattle.geometric_moves.specs.Turn.{toward, rotate, identity, opposite, rotX, rotY, rotZ, thenRot, inverseRot, turnOf, kindFace, layersOf, takes, turned, moved}
 
@@ -44,6 +42,25 @@ pub record AtMost (a b : ℤ) : Type 0 where
 abbrev pub RowsRise : Type 0
 RowsRise = (n k : ℕ) → signed n (mid k) ≡ negℤ (pos n) +ℤ pos (2 * k + 1)
 
+-- a sticker stands at (x, y, z): one coordinate is n or -n, the other two are among -n+1, -n+3, .., n-1
+abbrev pub Outer : ℕ → ℤ → Type 0
+Outer n a = (a ≡ pos n) ⊎ (a ≡ negℤ (pos n))
+
+pub record Across (n : ℕ) (a : ℤ) : Type 0 where
+  pub line : ℕ
+  pub below : line < n
+  pub is : a ≡ negℤ (pos n) +ℤ pos (2 * line + 1)
+
+abbrev pub StickerPoint : ℕ → Point → Type 0
+StickerPoint n q =
+    (Outer n (q .x) × Across n (q .y) × Across n (q .z))
+    ⊎ ((Across n (q .x) × Outer n (q .y) × Across n (q .z))
+    ⊎ (Across n (q .x) × Across n (q .y) × Outer n (q .z)))
+
+-- each of these positions is stored, and nothing else is
+abbrev pub PositionsStored : Type 0
+PositionsStored = (n : ℕ) (q : Point) → 0 < n → StickerPoint n q ↔ ((j : ℕ) × (j < stickers n) × (pointOf n (place n j) ≡ q))
+
 -- row z and column x stand at U (x, n, z), R (n, -z, -x), F (x, -z, n), D (x, -n, -z), L (-n, -z, x), B (-x, -z, -n)
 abbrev pub seatPoint : ℕ → Face → ℤ → ℤ → Point
 seatPoint n U x z = point x (pos n) z
@@ -67,7 +84,13 @@ LiesOn n B q = q .z ≡ negℤ (pos n)
 
 -- a sticker's place lies on one face, the one that its coordinates say
 abbrev pub FacesTold : Type 0
-FacesTold = (n j : ℕ) (f : Face) → 0 < n → (side n (place n j) ≡ On f) ↔ LiesOn n f (pointOf n (place n j))
+FacesTold = (n j : ℕ) (f : Face) → 0 < n → (faceOf n (place n j) ≡ f) ↔ LiesOn n f (pointOf n (place n j))
+
+-- it lies on a face, and on no second
+pub record OneFace (n : ℕ) (q : Point) : Type 0 where
+  pub face : Face
+  pub on : LiesOn n face q
+  pub only : (g : Face) → LiesOn n g q → g ≡ face
 
 -- the source finds the places of a face by rotating the top face: not at all for U, by X' Y' for R, X' for F, X2 for D, X' Y for L and
 -- X' Y2 for B; the rules' places are the same
@@ -142,6 +165,12 @@ TakenTurn = (n : ℕ) (m : Move) (p : Pos) → InCube n p → InLayers n (kindFa
 
 abbrev pub OthersStay : Type 0
 OthersStay = (n : ℕ) (m : Move) (p : Pos) → InCube n p → (InLayers n (kindFace (m .kind)) (layersOf n m) (pointOf n p) → ⊥) → turned n m p ≡ p
+
+-- a sticker's position, turned by any move, is a sticker's position and lies on exactly one face: at every size above 0, so at those from
+-- 1 to 104, for every move, so for every code that is taken, and every index
+abbrev pub TurnedOnOneFace : Type 0
+TurnedOnOneFace = (n : ℕ) (m : Move) (j : ℕ) → 0 < n
+    → StickerPoint n (pointOf n (turned n m (place n j))) × OneFace n (pointOf n (turned n m (place n j)))
 
 -- every place of a sticker is in the cube, and a turned one is the place of a sticker again
 abbrev pub PlacesKept : Type 0

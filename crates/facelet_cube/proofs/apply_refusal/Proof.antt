@@ -1,15 +1,11 @@
-use mathlib.Core.Path.{_≡_, refl, sym, _∙_}
+use mathlib.Core.Path.{_≡_, sym, _∙_}
 use mathlib.Core.Bool.{true}
-use mathlib.Core.List.{[], _∷_}
 use borrow.Author.Tests.{eq-eqb, ne-eqb}
-use Rattle.ground.specs.Refusals.{_when_, lowest}
-use Rattle.ground.proofs.RefusalLaws.{passed, lowest-front, lowest-behind}
+use Rattle.ground.specs.Refusals.{lowest}
 use Rattle.generic_cube.specs.Sizes.{sized}
-use Rattle.generic_cube.specs.Code.{listRows, listRefusal}
 use Rattle.geometric_moves.proofs.TurnLaws.{size-in-range}
 use Rattle.sticker.proofs.PlaceLaws.{room}
 use Rattle.geometric_moves.specs.Inner.{Sized}
-use Rattle.geometric_moves.specs.Turn.{listOff}
 use Rattle.facelet_cube.specs.Apply.{applyRefusal}
 use Rattle.facelet_cube.proofs.ApplyLaws.{apply-list}
 use native.Mathlib.Omega.{arith}
@@ -50,39 +46,14 @@ list-refusal-requires : tie.Need-list-refusal-requires
 list-refusal-requires c κs = search needs
 
 returns-3 : tie.Need-returns-3
-unfolding listRefusal
 returns-3 c =
-    let a = c .before .before .before .before .before .before .before .args in
-    let e = c .before .list-refusal .ensures in
-    sym (
-    apply-list (a .n) (a .cube) (a .work) (a .moves .now) (sized-is (c .before .before .before .before)) (c .before .before .before .if2 .left) (c .before .before .if3 .left)
-    ∙ lowest-front (listRows (a .n) (a .moves .now)) _ (λ z. c .if4 .taken (e ∙ z)) ∙ sym e
-    )
-
-list-off-requires : tie.Need-list-off-requires
-list-off-requires c κs = (size (c .before .before .before .before), sym (c .before .list-refusal .ensures) ∙ c .if4 .left)
-
--- the list is in order: row 11 is left
-behind : (c : tie.Else4) → let a = c .before .before .before .before .before .before .before .args in
-    applyRefusal (a .n) (a .cube) (a .work) (a .moves .now) ≡ lowest (11 when listOff (a .n) (a .moves .now) ∷ [])
-unfolding listRefusal
-behind c =
-    let a = c .before .before .before .before .before .before .before .args in
-    let rows = listRows (a .n) (a .moves .now) in
-    apply-list (a .n) (a .cube) (a .work) (a .moves .now) (sized-is (c .before .before .before .before)) (c .before .before .before .if2 .left) (c .before .before .if3 .left)
-    ∙ lowest-behind rows _ (passed rows refl (sym (c .before .list-refusal .ensures) ∙ c .if4 .left))
+    let a = c .before .before .before .before .before .before .args in
+    c .list-refusal .ensures
+    ∙ sym (apply-list (a .n) (a .cube) (a .work) (a .moves .now) (sized-is (c .before .before .before)) (c .before .before .if2 .left) (c .before .if3 .left))
 
 returns-4 : tie.Need-returns-4
-unfolding lowest
-returns-4 c = sym (behind (c .before .before) ∙ rw (sym (c .before .list-off .ensures) ∙ c .if5 .taken))
-
-returns-5 : tie.Need-returns-5
-unfolding lowest
-returns-5 c = sym (behind (c .before .before) ∙ rw (sym (c .before .list-off .ensures) ∙ c .if5 .left))
-
-returns-6 : tie.Need-returns-6
 unfolding applyRefusal lowest
-returns-6 c = simp (sym (c .before .is-size .ensures) ∙ c .if1 .left)
+returns-4 c = simp (sym (c .before .is-size .ensures) ∙ c .if1 .left)
 
 pub apply-refusal-spec : {M : Type 1} → statement M
 apply-refusal-spec =
@@ -95,7 +66,4 @@ apply-refusal-spec =
     returns-2
     list-refusal-requires
     returns-3
-    list-off-requires
-    returns-4
-    returns-5
-    returns-6)
+    returns-4)

@@ -17,17 +17,17 @@ use Rattle.ida_star.proofs.late_refusal.Tie as tie
 small : (c : tie.Start) → stickers (c .args .n) ≤ 294
 small c = small-cube (c .args .n) (c .pre .size)
 
-formed : (c : tie.Else1) → not (wellFormed (stickers (c .before .before .before .before .args .n)) (c .before .before .before .before .args .table .now)) ≡ false
+formed : (c : tie.Else1) → not (wellFormed (stickers (c .before .before .before .args .n)) (c .before .before .before .args .table .now)) ≡ false
 formed c = ap not (sym (c .before .is-well-formed .ensures)) ∙ c .if1 .left
 
 mul-s : tie.Need-mul-s
 mul-s c = search needs
 
 mul-s-2 : tie.Need-mul-s-2
-mul-s-2 c = omega (arith, small (c .before .before))
+mul-s-2 c = omega (arith, small (c .before))
 
 is-well-formed-requires : tie.Need-is-well-formed-requires
-is-well-formed-requires c κs = omega (arith, small (c .before .before))
+is-well-formed-requires c κs = omega (arith, small (c .before))
 
 returns : tie.Need-returns
 unfolding lateRefusal lowest
@@ -38,23 +38,16 @@ add-if2 c = search needs
 
 mul-if2 : tie.Need-mul-if2
 mul-if2 c =
-    let a = c .before .before .before .before in
+    let a = c .before .before .before in
     omega (arith, levels-small (a .args .n) (a .args .limit) (a .pre .size) (a .pre .low))
 
 returns-2 : tie.Need-returns-2
 unfolding lateRefusal lowest
 returns-2 c = simp (formed (c .before), lt-ltb _ _ (c .if2 .taken))
 
-list-off-requires : tie.Need-list-off-requires
-list-off-requires c κs = search needs
-
 returns-3 : tie.Need-returns-3
 unfolding lateRefusal lowest
-returns-3 c = simp (formed (c .before .before .before), le-ltb _ _ (c .before .before .if2 .left), sym (c .before .list-off .ensures) ∙ c .if3 .taken)
-
-returns-4 : tie.Need-returns-4
-unfolding lateRefusal lowest
-returns-4 c = simp (formed (c .before .before .before), le-ltb _ _ (c .before .before .if2 .left), sym (c .before .list-off .ensures) ∙ c .if3 .left)
+returns-3 c = simp (formed (c .before), le-ltb _ _ (c .if2 .left))
 
 pub late-refusal-spec : {M : Type 1} → statement M
 late-refusal-spec =
@@ -67,6 +60,4 @@ late-refusal-spec =
     add-if2
     mul-if2
     returns-2
-    list-off-requires
-    returns-3
-    returns-4)
+    returns-3)

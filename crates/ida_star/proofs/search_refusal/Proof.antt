@@ -40,10 +40,10 @@ abbrev asked : tie.Start → CubeSearch
 asked c =
     record { n = c .args .n; cube = c .args .cube .now; table = c .args .table .now; depth = c .args .depth; candidates = c .args .moves .now; limit = c .args .limit }
 
--- the list is in order: rows 6 to 11 are left
+-- the list is in order: rows 6 to 9 are left
 behind : (c : tie.Else3) → let a = deep c .args in
     searchRefusal (asked (deep c)) (a .work) (a .out)
-    ≡ pick (ltb (a .out) (a .limit)) 6 (pick (beyond (length (a .moves .now)) (a .limit) (a .depth)) 7 (lateRefusal (a .n) (a .table .now) (a .moves .now) (a .limit) (a .work)))
+    ≡ pick (ltb (a .out) (a .limit)) 6 (pick (beyond (length (a .moves .now)) (a .limit) (a .depth)) 7 (lateRefusal (a .n) (a .table .now) (a .limit) (a .work)))
 behind c = search-behind (asked (deep c)) _ _ (sized (c .before .before .before)) (c .before .before .if2 .left) (listed c)
 
 abbrev deepest : tie.Else5 → tie.Start
@@ -92,7 +92,7 @@ late-refusal-requires : tie.Need-late-refusal-requires
 late-refusal-requires c κs =
     let b = bounds (c .before .before .before .before .before .before) in
     let r = in-reach _ _ _ (near c) in
-    record { some = b .0; size = b .1; low = r .low; listed = listed (c .before .before .before) }
+    record { some = b .0; size = b .1; low = r .low }
 
 returns-6 : tie.Need-returns-6
 returns-6 c =

@@ -4,8 +4,7 @@ use mathlib.Core.List.{List, [], _∷_}
 use lib.Dec.{eqb}
 use lib.ListN.{getD}
 use borrow.Author.Tests.{eqb-true}
-use Rattle.ground.specs.Choice.{anyBelow}
-use Rattle.ground.proofs.ChoiceLaws.{tested}
+use Rattle.ground.proofs.ChoiceLaws.{anyBelow, tested}
 use Rattle.facelet_cube.specs.InnerLanes.{ringFaces, ringEdges, ringWord}
 use Rattle.facelet_cube.proofs.LaneLaws.{word-small}
 use native.Mathlib.Omega.{arith}
