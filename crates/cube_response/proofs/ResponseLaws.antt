@@ -10,6 +10,7 @@ use lib.Dec.{ltb}
 use lib.ListN.{length, getD, take, drop, set, length-append, length-drop}
 use lib.Seq.{sets-eq, take-at, drop-cons, set-append-seam, append-snoc}
 use borrow.Author.Tests.{le-ltb}
+use Rattle.generic_cube.specs.Inner.{Sized}
 use Rattle.ground.proofs.ChoiceLaws.{bool-cases}
 use Rattle.generic_cube.specs.declared.Done.{Done}
 use Rattle.generic_cube.specs.Sizes.{sized, stickers}
@@ -24,7 +25,6 @@ use Rattle.scramble_parser.specs.Words.{tokensOf}
 use Rattle.scramble_parser.specs.Parse.{Reading, codes, bad, reading, answerOf, filledBy, parseAnswer, parseOut, ParseResult}
 use Rattle.scramble_parser.proofs.ParseLaws.{reading-taken, reading-few}
 use Rattle.geometric_moves.specs.Turn.{run}
-use Rattle.geometric_moves.specs.Inner.{Sized}
 use Rattle.facelet_cube.specs.Apply.{ApplyMovesResult}
 use Rattle.facelet_cube.specs.Inner.{Runnable}
 use Rattle.facelet_cube.proofs.ApplyLaws.{runnable-applies}

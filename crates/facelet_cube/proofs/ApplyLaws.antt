@@ -15,9 +15,8 @@ use Rattle.generic_cube.specs.declared.Done.{Done}
 use Rattle.generic_cube.specs.declared.Done.the-variants.{Ok}
 use Rattle.generic_cube.specs.Sizes.{sized, stickers}
 use Rattle.generic_cube.specs.Code.{moveOf, listRows, listRefusal}
-use Rattle.generic_cube.proofs.CodeLaws.{bounds-sized}
+use Rattle.generic_cube.proofs.CodeLaws.{size-in-range, bounds-sized}
 use Rattle.geometric_moves.specs.Turn.{moved, run}
-use Rattle.geometric_moves.proofs.TurnLaws.{size-in-range}
 use Rattle.geometric_moves.proofs.MovedLaws.{length-moved}
 use Rattle.facelet_cube.specs.Inner.{Runnable}
 use Rattle.facelet_cube.specs.Apply.{applyRows, applyRefusal, ApplyMovesResult}

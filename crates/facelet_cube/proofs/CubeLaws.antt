@@ -15,10 +15,9 @@ use Rattle.ground.proofs.RefusalLaws.{passed}
 use Rattle.ground.specs.Lists.{tabulate, upFrom}
 use Rattle.ground.proofs.FillLaws.{Filling, fill-all, Changing}
 use Rattle.generic_cube.specs.Sizes.{stickers, letters, letterX}
-use Rattle.generic_cube.proofs.CodeLaws.{bounds-sized}
+use Rattle.generic_cube.proofs.CodeLaws.{size-in-range, bounds-sized}
 use Rattle.ground.proofs.PutLaws.{getD-from}
 use Rattle.sticker.proofs.PlaceLaws.{room}
-use Rattle.geometric_moves.proofs.TurnLaws.{size-in-range}
 use Rattle.facelet_cube.specs.Inner.{Whole, Masks}
 use Rattle.facelet_cube.specs.Cube.{cubeRows, cubeRefusal, solvedCube, solvedIds, oneByte, faceStickers, maskRows, maskRefusal, masked}
 

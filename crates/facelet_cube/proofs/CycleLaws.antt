@@ -10,11 +10,11 @@ use lib.Dec.{ltb, leb, eqb}
 use lib.ListN.{length, getD, set, length-set}
 use lib.Seq.{getD-set-same, getD-set-other}
 use borrow.Author.Tests.{eqb-true, eqb-false, lt-ltb, le-ltb, le-leb, lt-leb}
+use Rattle.generic_cube.specs.Inner.{Sized}
 use Rattle.ground.specs.Choice.{pick}
 use Rattle.ground.proofs.ChoiceLaws.{bool-cases, less-cases}
 use Rattle.generic_cube.specs.Sizes.{stickers}
 use Rattle.sticker.proofs.PlaceLaws.{digits-below}
-use Rattle.geometric_moves.specs.Inner.{Sized}
 use Rattle.facelet_cube.specs.InnerLanes.{ringLane, prior, cycled, lineCycled, ringTurned}
 use Rattle.facelet_cube.proofs.LaneLaws.{length-line, length-ring}
 use Rattle.facelet_cube.proofs.RingLaws.{ringPlace, Cell, ring-below}

@@ -13,13 +13,12 @@ use Rattle.ground.specs.Choice.{pick}
 use Rattle.ground.proofs.ChoiceLaws.{bool-cases, less-cases}
 use Rattle.generic_cube.specs.declared.Move.{Move}
 use Rattle.generic_cube.specs.Sizes.{stickers}
-use Rattle.generic_cube.specs.Inner.{Fair}
+use Rattle.generic_cube.specs.Inner.{Sized, Fair}
 use Rattle.sticker.specs.declared.Face.{Face}
 use Rattle.sticker.specs.Place.{Slot, top, numOf, nthFace, placeOf, flat, unflat}
 use Rattle.sticker.proofs.PlaceLaws.{Real, slot-eq, num-nth, number-below, flat-unflat, unflat-real, digits-below}
 use Rattle.geometric_moves.specs.Turn.{toward, opposite, sameFace, kindFace, layersOf, source, moved}
 use Rattle.geometric_moves.proofs.RotationLaws.{neg-toward, opposite-twice}
-use Rattle.geometric_moves.specs.Inner.{Sized}
 use Rattle.geometric_moves.proofs.FaceLaws.{same-face}
 use Rattle.geometric_moves.proofs.TurnLaws.{TakesLayers, takes-first}
 use Rattle.geometric_moves.proofs.MovedLaws.{length-moved, getD-moved}

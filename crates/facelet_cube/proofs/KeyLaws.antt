@@ -5,12 +5,12 @@ use mathlib.Core.List.{[], _∷_}
 use native.Mathlib.Omega.{arith}
 use native.Mathlib.Nat.{mul-le-mul-right}
 use lib.ListN.{getD}
+use Rattle.generic_cube.specs.Inner.{Sized}
 use Rattle.ground.proofs.ChoiceLaws.{less-cases}
 use Rattle.generic_cube.specs.Sizes.{stickers}
 use Rattle.sticker.specs.declared.Face.{Face}
 use Rattle.sticker.specs.Place.{Slot, flat, unflat}
 use Rattle.sticker.proofs.PlaceLaws.{Real, slot-eq, flat-unflat, unflat-real, high-digit, low-digit, digits-below}
-use Rattle.geometric_moves.specs.Inner.{Sized}
 use Rattle.facelet_cube.proofs.LaneLaws.{spots, ring-edge}
 use Rattle.facelet_cube.proofs.EdgeLaws.{laneFace, laneEdge}
 use Rattle.facelet_cube.proofs.RingLaws.{laneEntry, ringSlot, ringPlace, Cell, ring-flat, ring-slot}

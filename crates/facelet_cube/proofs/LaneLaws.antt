@@ -9,10 +9,10 @@ use native.Mathlib.Nat.{div-one, add-mul, mul-le-mul, mul-le-mul-right, suc-mul}
 use lib.Dec.{ltb, eqb}
 use lib.ListN.{length, getD, set, length-set}
 use borrow.Author.Tests.{ltb-true, eqb-true}
+use Rattle.generic_cube.specs.Inner.{Sized}
 use Rattle.ground.proofs.ChoiceLaws.{anyBelow, tested}
 use Rattle.generic_cube.specs.Sizes.{stickers}
 use Rattle.sticker.proofs.PlaceLaws.{room, digits-below}
-use Rattle.geometric_moves.specs.Inner.{Sized}
 use Rattle.facelet_cube.specs.declared.lanes.Lane.{Lane}
 use Rattle.facelet_cube.specs.declared.lanes.Ring.{Ring}
 use Rattle.facelet_cube.specs.InnerLanes.{ringFaces, ringEdges, ringWord, corners, laneOf, Framed, ringOf, placeOn, Spot, ringLane, prior, cycled, lineCycled, ringTurned, faceTurned, layersTurned, PlaceFits, LineFits, RingFits}

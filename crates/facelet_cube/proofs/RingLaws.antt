@@ -5,6 +5,7 @@ use mathlib.Core.Bool.{true, false}
 use native.Mathlib.Omega.{arith}
 use native.Mathlib.Nat.{add-zero}
 use lib.ListN.{getD}
+use Rattle.generic_cube.specs.Inner.{Sized}
 use Rattle.ground.specs.Choice.{pick}
 use Rattle.generic_cube.specs.declared.Move.{Move}
 use Rattle.generic_cube.specs.Sizes.{stickers}
@@ -12,7 +13,6 @@ use Rattle.sticker.specs.Place.{Slot, nthFace, placeOf, flat, unflat, place, in
 use Rattle.sticker.proofs.PlaceLaws.{nth-num, unflat-flat, slot-place, index-place, flat-below}
 use Rattle.geometric_moves.specs.Turn.{toward, rotate, quarterOf, turnOf, kindFace, takes, turned, target, source}
 use Rattle.generic_cube.specs.Code.{withTurn}
-use Rattle.geometric_moves.specs.Inner.{Sized}
 use Rattle.geometric_moves.proofs.TurnLaws.{target-add, target-none, takes-turned}
 use Rattle.geometric_moves.proofs.RotationLaws.{turn-one}
 use Rattle.facelet_cube.specs.InnerLanes.{ringFaces, placeOn, ringLane}

@@ -6,13 +6,13 @@ use native.Mathlib.Omega.{arith}
 use lib.Dec.{ltb, eqb}
 use lib.ListN.{getD}
 use borrow.Author.Tests.{lt-ltb, le-ltb, eqb-true, eq-eqb, ne-eqb, ltb-true, not-true}
+use Rattle.generic_cube.specs.Inner.{Sized}
 use Rattle.ground.specs.Choice.{pick}
 use Rattle.ground.proofs.ChoiceLaws.{anyBelow, bool-cases, tested, less-cases}
 use Rattle.sticker.specs.declared.Face.{Face}
 use Rattle.sticker.specs.Place.{Slot, numOf, nthFace}
 use Rattle.sticker.proofs.PlaceLaws.{Real, num-nth, number-below}
 use Rattle.geometric_moves.specs.Turn.{opposite, sameFace}
-use Rattle.geometric_moves.specs.Inner.{Sized}
 use Rattle.geometric_moves.proofs.FaceLaws.{same-face, same-self, if-then, if-not, all-faces, all-pairs}
 use Rattle.facelet_cube.specs.InnerLanes.{ringFaces, ringEdges}
 use Rattle.facelet_cube.proofs.LaneLaws.{spots, ring-edge}

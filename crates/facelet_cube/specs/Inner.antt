@@ -6,8 +6,7 @@ use lib.ListN.{length, getD}
 use Rattle.generic_cube.specs.declared.Move.{Move}
 use Rattle.generic_cube.specs.Sizes.{stickers}
 use Rattle.generic_cube.specs.Code.{listRefusal}
-use Rattle.generic_cube.specs.Inner.{Fair}
-use Rattle.geometric_moves.specs.Inner.{Sized}
+use Rattle.generic_cube.specs.Inner.{Sized, Fair}
 
 -- a slice that is a cube's
 pub record Whole (n long : ℕ) : Type 0 where

@@ -6,9 +6,9 @@ use mathlib.Core.Bool.{Bool}
 use mathlib.Core.List.{List, [], _∷_}
 use lib.Dec.{eqb}
 use lib.ListN.{getD, set}
+use Rattle.generic_cube.specs.Inner.{Sized}
 use Rattle.ground.specs.Choice.{pick}
 use Rattle.generic_cube.specs.Sizes.{stickers}
-use Rattle.geometric_moves.specs.Inner.{Sized}
 use Rattle.facelet_cube.specs.declared.lanes.Lane.{Lane}
 use Rattle.facelet_cube.specs.declared.lanes.Ring.{Ring}
 

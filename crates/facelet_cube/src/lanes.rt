@@ -1,8 +1,8 @@
 ghost use mathlib.Core.Path.{_≡_};
 ghost use Prim.Native.Nat.{_/_, _%_, _<_};
+ghost use Rattle.generic_cube.specs.Inner.{Sized};
 ghost use Rattle.sticker.specs.Place.{numOf};
 ghost use Rattle.geometric_moves.specs.Turn.{kindFace};
-ghost use Rattle.geometric_moves.specs.Inner.{Sized};
 ghost use Rattle.facelet_cube.specs.InnerLanes.{ringWord, laneOf, ringOf, placeOn, Spot, Framed};
 
 // The number of the face as which each kind turns.

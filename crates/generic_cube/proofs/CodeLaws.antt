@@ -17,13 +17,16 @@ use Rattle.ground.proofs.RefusalLaws.{Pass, passed, pass-lowest}
 use Rattle.generic_cube.specs.declared.Move.{Move}
 use Rattle.generic_cube.specs.declared.Code.the-variants.{Taken, Refused}
 use Rattle.generic_cube.specs.Sizes.{sized, small, beyond, stickers}
-use Rattle.generic_cube.specs.Code.{move, codeOf, moveOf, withTurn, turnedTo, isWide, badCode, readCode, outside, badWidthIn, rowsIn, refusalIn, listRefusal, joins, barred}
-use Rattle.generic_cube.specs.Inner.{Fair}
+use Rattle.generic_cube.specs.Code.{codeOf, moveOf, withTurn, turnedTo, isWide, badCode, readCode, outside, badWidthIn, rowsIn, refusalIn, listRefusal, joins, barred}
+use Rattle.generic_cube.specs.Inner.{Sized, Fair}
 
 -- a size that is in range
 pub sized-bounds : (n : ℕ) → sized n ≡ true → (1 ≤ n) × (n ≤ 104)
 unfolding sized
 sized-bounds n e = between-bounds 1 104 n e
+
+pub size-in-range : {n : ℕ} → sized n ≡ true → Sized n
+size-in-range {n} e = let b = sized-bounds n e in record { some = b .0; size = b .1 }
 
 pub bounds-sized : (n : ℕ) → 1 ≤ n → n ≤ 104 → sized n ≡ true
 unfolding sized

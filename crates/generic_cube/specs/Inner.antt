@@ -1,9 +1,14 @@
--- Inner contracts: what is known of a move once its code is taken, and of the lists of kinds.
+-- Inner contracts: what is known of a size and of a move once they are taken, and of the lists of kinds.
 use Prim.Native.Nat.{ℕ, _<_, _≤_}
 use mathlib.Core.Path.{_≡_}
 use mathlib.Core.List.{List}
 use lib.ListN.{length, getD}
 use Rattle.generic_cube.specs.declared.Move.{Move}
+
+-- a size that passed the test `sized`, as bounds
+pub record Sized (n : ℕ) : Type 0 where
+  pub some : 0 < n
+  pub size : n ≤ 104
 
 -- a move that is taken, its width in range
 pub record Fair (n : ℕ) (m : Move) : Type 0 where

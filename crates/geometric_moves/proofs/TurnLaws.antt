@@ -10,17 +10,15 @@ use borrow.Author.Tests.{le-leb, lt-leb, lt-ltb, le-ltb, eq-eqb, ne-eqb}
 use Rattle.ground.specs.Choice.{pick}
 use Rattle.ground.proofs.ChoiceLaws.{bool-cases, less-cases}
 use Rattle.generic_cube.specs.declared.Move.{Move}
-use Rattle.generic_cube.specs.Sizes.{sized, stickers}
-use Rattle.generic_cube.proofs.CodeLaws.{sized-bounds}
+use Rattle.generic_cube.specs.Sizes.{stickers}
 use Rattle.generic_cube.specs.Code.{withTurn}
-use Rattle.generic_cube.specs.Inner.{Fair}
+use Rattle.generic_cube.specs.Inner.{Sized, Fair}
 use Rattle.sticker.specs.declared.Face.{Face}
 use Rattle.sticker.specs.declared.Face.the-variants.{U, R, F, D, L, B}
 use Rattle.sticker.specs.Place.{Pos, top, bot, mid, seat, placeOf, place, index, InCube}
 use Rattle.sticker.proofs.PlaceLaws.{sticker-in, pos-eq, Sticker, place-sticker, place-index, index-place, index-below}
 use Rattle.geometric_moves.specs.declared.Rotation.{Rotation}
 use Rattle.geometric_moves.specs.Turn.{toward, rotate, identity, rotX, rotY, rotZ, thenRot, sameFace, whither, inverseRot, turnOf, quarterOf, kindFace, layersOf, takes, via, rotationOf, turned, target}
-use Rattle.geometric_moves.specs.Inner.{Sized}
 use Rattle.geometric_moves.proofs.RotationLaws.{toward-rotate, rotate-then, turn-add, turn-mod, turn-axis}
 
 -- the sticker in column c and row r of face f
@@ -153,10 +151,6 @@ pub target-none : (n : ℕ) (m : Move) (j : ℕ) → 0 < n → j < stickers n �
 unfolding target takes layersOf
 target-none n m j h k =
     ap (index n) (via-none n (kindFace (m .kind)) (takes n m) (place n j)) ∙ index-place n j h k
-
--- a size that passed its test
-pub size-in-range : {n : ℕ} → sized n ≡ true → Sized n
-size-in-range {n} e = let b = sized-bounds n e in record { some = b .0; size = b .1 }
 
 pub toward-within : (n : ℕ) (p : Pos) → InCube n p → (f : Face) → toward n p f ≤ 2 * n
 toward-within n p h U = h .y-in

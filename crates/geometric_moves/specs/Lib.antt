@@ -1,2 +1,1 @@
 pub mod Turn
-pub mod Inner

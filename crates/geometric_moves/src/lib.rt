@@ -131,34 +131,34 @@ impl Rotation {
         let z = self.whither_of(Face::F);
         Rotation { x, y, z }
     }
-}
 
-// U, R, F turn as Y, X, Z; D, L, B as their inverses.
-fn quarter_of(f: Face) -> Rotation
-    ensures { λ r. ⌜ r ≡ quarterOf f ⌝ }
-{
-    match f {
-        Face::U => Rotation::Y,
-        Face::R => Rotation::X,
-        Face::F => Rotation::Z,
-        Face::D => Rotation::Y.inverse(),
-        Face::L => Rotation::X.inverse(),
-        Face::B => Rotation::Z.inverse(),
+    // The quarter turn of a face: U, R, F turn as Y, X, Z; D, L, B as their inverses.
+    pub fn quarter(f: Face) -> Rotation
+        ensures { λ r. ⌜ r ≡ quarterOf f ⌝ }
+    {
+        match f {
+            Face::U => Rotation::Y,
+            Face::R => Rotation::X,
+            Face::F => Rotation::Z,
+            Face::D => Rotation::Y.inverse(),
+            Face::L => Rotation::X.inverse(),
+            Face::B => Rotation::Z.inverse(),
+        }
     }
-}
 
-// Turn 2 is two quarters, 3 is three.
-fn turn_of(t: usize, r: Rotation) -> Rotation
-    requires { ⌜ t ≤ 3 ⌝ }
-    ensures { λ s. ⌜ s ≡ turnOf t r ⌝ }
-{
-    match t {
-        0 => Rotation::IDENTITY,
-        1 => r,
-        2 => r.half(),
-        _ => {
-            let h = r.half();
-            h.and_then(r)
+    // This quarter turn t times: 2 is a half turn, 3 is a half turn and a quarter.
+    pub fn times(self, t: usize) -> Rotation
+        requires { ⌜ t ≤ 3 ⌝ }
+        ensures { λ s. ⌜ s ≡ turnOf t self ⌝ }
+    {
+        match t {
+            0 => Rotation::IDENTITY,
+            1 => self,
+            2 => self.half(),
+            _ => {
+                let h = self.half();
+                h.and_then(self)
+            }
         }
     }
 }

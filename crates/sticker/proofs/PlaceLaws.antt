@@ -6,11 +6,9 @@ use native.Mathlib.Omega.{arith}
 use native.Mathlib.Nat.{mul-add-div-right, mul-add-mod-self-right, div-eq-of-lt, mod-eq-of-lt, add-zero, mul-le-mul, mul-le-mul-left, mul-le-mul-right, div-add-mod', mod-lt, div-lt-iff-lt-mul, suc-mul}
 use lib.Dec.{eqb}
 use borrow.Author.Tests.{eq-eqb, ne-eqb}
-use Rattle.ground.specs.Choice.{pick}
-use Rattle.ground.proofs.ChoiceLaws.{bool-cases}
 use Rattle.sticker.specs.declared.Face.{Face}
 use Rattle.sticker.specs.declared.Face.the-variants.{U, R, F, D, L, B}
-use Rattle.sticker.specs.Place.{Pos, Slot, top, bot, neg, mid, numOf, nthFace, seat, placeOf, faceOf, colOn, rowOn, slotOn, slotOf, flat, unflat, place, index, InCube}
+use Rattle.sticker.specs.Place.{Pos, Slot, top, bot, neg, mid, numOf, nthFace, seat, placeOf, faceOf, colOn, rowOn, slotOf, flat, unflat, place, index, InCube}
 
 -- a coordinate within the face is neither n nor -n, and neither is its negation
 mid-top : (n c : ℕ) → eqb (mid c) (top n) ≡ false

@@ -1,7 +1,7 @@
 -- The rules' own coordinates: what the definitions, which hold a coordinate with n added, say of whole numbers.
 use Prim.Native.Nat.{ℕ, zero, suc, _+_, _-_, _*_, _%_, _<_, _≤_}
 use mathlib.Core.Path.{_≡_, refl, ap, sym, subst, _∙_}
-use mathlib.Core.Bool.{true, true≢false, cond}
+use mathlib.Core.Bool.{true, cond}
 use mathlib.Core.Logic.{_↔_, inl, inr}
 use native.Mathlib.Omega.{arith}
 use native.Mathlib.Nat.{zero-add}
@@ -190,16 +190,6 @@ no-other n B D c r hc hr e = absurd (omega arith)
 no-other n B L c r hc hr e = absurd (omega arith)
 no-other n B B c r hc hr e = refl
 
-pub faces-told : FacesTold
-faces-told n j f h =
-    let s : Slot = unflat n j in
-    let real = unflat-real n j h in
-    let inside = sticker-in n (place n j) (place-sticker n j h) in
-    let on : faceOf n (place n j) ≡ s .face = face-seat n (s .face) (s .col) (s .row) (real .col-ok) (real .row-ok) in (
-      λ e. toward-lies n (place n j) inside f (subst (λ (g : Face). toward n (place n j) g ≡ top n) (sym on ∙ e) (own-toward n (s .face) (s .col) (s .row))),
-      λ l. on ∙ no-other n f (s .face) (s .col) (s .row) (real .col-ok) (real .row-ok) (lies-toward n (place n j) inside f l),
-    )
-
 -- a sticker's place is a sticker's position, and lies on one face alone
 
 module _ (n k : ℕ) (h : k < n) where
@@ -218,21 +208,35 @@ seat-point n D c r hc hr = inr (inl (across n c hc, inr (signed-bot n), across-n
 seat-point n L c r hc hr = inl (inr (signed-bot n), across-neg n r hr, across n c hc)
 seat-point n B c r hc hr = inr (inr (across-neg n c hc, across-neg n r hr, inr (signed-bot n)))
 
-seat-one : (n : ℕ) (f : Face) (c r : ℕ) → c < n → r < n → InCube n (seat n f (mid c) (mid r)) → OneFace n (pointOf n (seat n f (mid c) (mid r)))
-seat-one n f c r hc hr h =
-    let p : Pos = seat n f (mid c) (mid r) in
-    record {
-      face = f;
-      on = toward-lies n p h f (own-toward n f c r);
-      only = λ g l. sym (no-other n g f c r hc hr (lies-toward n p h g l));
-    }
+module _ (n : ℕ) (f : Face) (c r : ℕ) (hc : c < n) (hr : r < n) (h : InCube n (seat n f (mid c) (mid r))) where
+  seat-on : LiesOn n f (pointOf n (seat n f (mid c) (mid r)))
+  seat-on = toward-lies n (seat n f (mid c) (mid r)) h f (own-toward n f c r)
+
+  seat-only : (g : Face) → LiesOn n g (pointOf n (seat n f (mid c) (mid r))) → g ≡ f
+  seat-only g l = sym (no-other n g f c r hc hr (lies-toward n (seat n f (mid c) (mid r)) h g l))
+
+pub faces-told : FacesTold
+faces-told n j f h =
+    let s : Slot = unflat n j in
+    let real = unflat-real n j h in
+    let inside = sticker-in n (place n j) (place-sticker n j h) in
+    let on : faceOf n (place n j) ≡ s .face = face-seat n (s .face) (s .col) (s .row) (real .col-ok) (real .row-ok) in (
+      λ e. subst (λ (g : Face). LiesOn n g (pointOf n (place n j))) (sym on ∙ e) (seat-on n (s .face) (s .col) (s .row) (real .col-ok) (real .row-ok) inside),
+      λ l. on ∙ sym (seat-only n (s .face) (s .col) (s .row) (real .col-ok) (real .row-ok) inside f l),
+    )
 
 sticker-one : (n : ℕ) (p : Pos) → Sticker n p → StickerPoint n (pointOf n p) × OneFace n (pointOf n p)
 sticker-one n p s =
     let t : Slot = s .slot in
     let h : InCube n (seat n (t .face) (mid (t .col)) (mid (t .row))) = subst (InCube n) (sym (s .here)) (sticker-in n p s) in
-    subst (λ (q : Pos). StickerPoint n (pointOf n q) × OneFace n (pointOf n q)) (s .here)
-    (seat-point n (t .face) (t .col) (t .row) (s .real .col-ok) (s .real .row-ok), seat-one n (t .face) (t .col) (t .row) (s .real .col-ok) (s .real .row-ok) h)
+    subst (λ (q : Pos). StickerPoint n (pointOf n q) × OneFace n (pointOf n q)) (s .here) (
+      seat-point n (t .face) (t .col) (t .row) (s .real .col-ok) (s .real .row-ok),
+      record {
+        face = t .face;
+        on = seat-on n (t .face) (t .col) (t .row) (s .real .col-ok) (s .real .row-ok) h;
+        only = seat-only n (t .face) (t .col) (t .row) (s .real .col-ok) (s .real .row-ok) h;
+      },
+    )
 
 -- and each such position is the place of an index
 

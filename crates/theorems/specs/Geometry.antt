@@ -86,7 +86,7 @@ LiesOn n B q = q .z ≡ negℤ (pos n)
 abbrev pub FacesTold : Type 0
 FacesTold = (n j : ℕ) (f : Face) → 0 < n → (faceOf n (place n j) ≡ f) ↔ LiesOn n f (pointOf n (place n j))
 
--- it lies on a face, and on no second
+-- a position that lies on a face, and on no second
 pub record OneFace (n : ℕ) (q : Point) : Type 0 where
   pub face : Face
   pub on : LiesOn n face q

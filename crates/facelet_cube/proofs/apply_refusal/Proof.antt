@@ -1,11 +1,11 @@
 use mathlib.Core.Path.{_≡_, sym, _∙_}
 use mathlib.Core.Bool.{true}
 use borrow.Author.Tests.{eq-eqb, ne-eqb}
+use Rattle.generic_cube.proofs.CodeLaws.{size-in-range}
+use Rattle.generic_cube.specs.Inner.{Sized}
 use Rattle.ground.specs.Refusals.{lowest}
 use Rattle.generic_cube.specs.Sizes.{sized}
-use Rattle.geometric_moves.proofs.TurnLaws.{size-in-range}
 use Rattle.sticker.proofs.PlaceLaws.{room}
-use Rattle.geometric_moves.specs.Inner.{Sized}
 use Rattle.facelet_cube.specs.Apply.{applyRefusal}
 use Rattle.facelet_cube.proofs.ApplyLaws.{apply-list}
 use native.Mathlib.Omega.{arith}

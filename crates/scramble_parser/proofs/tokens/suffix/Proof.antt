@@ -1,4 +1,4 @@
-use mathlib.Core.Path.{_≡_, ap, _∙_}
+use mathlib.Core.Path.{ap, _∙_}
 use Rattle.scramble_parser.specs.Token.{markOf}
 use Rattle.scramble_parser.proofs.TokenLaws.{mark-eq}
 use borrow.Author.Needs.{needs}

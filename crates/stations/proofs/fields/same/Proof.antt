@@ -1,7 +1,5 @@
 use Prim.Native.Nat.{_-_, _≤_}
-use mathlib.Core.Path.{_≡_}
-use lib.ListN.{length, length-set}
-use native.Mathlib.Omega.{arith}
+use lib.ListN.{length}
 use borrow.Author.Needs.{needs}
 use Rattle.stations.proofs.fields.same.Statement.{statement}
 use Rattle.stations.proofs.fields.same.Tie as tie

@@ -1,8 +1,8 @@
 use mathlib.Core.Path.{ap, sym, _∙_}
 use Rattle.geometric_moves.specs.Turn.{quarterOf}
 use borrow.Author.Needs.{needs}
-use Rattle.geometric_moves.proofs.quarter_of.Statement.{statement}
-use Rattle.geometric_moves.proofs.quarter_of.Tie as tie
+use Rattle.geometric_moves.proofs.Rotation.quarter.Statement.{statement}
+use Rattle.geometric_moves.proofs.Rotation.quarter.Tie as tie
 
 enum-told : tie.Need-enum-told
 enum-told c = search needs
@@ -55,8 +55,8 @@ returns-6 : tie.Need-returns-6
 unfolding quarterOf
 returns-6 c = c .inverse3 .ensures ∙ ap quarterOf (sym (c .before .enum-told6 .given .1))
 
-pub quarter-of-spec : {M : Type 1} → statement M
-quarter-of-spec =
+pub quarter-spec : {M : Type 1} → statement M
+quarter-spec =
     tie.close
     (tie.spec
     enum-told
