@@ -11,7 +11,7 @@ use Rattle.sticker.proofs.PlaceLaws.{pos-eq, sticker-in}
 use Rattle.geometric_moves.specs.declared.Rotation.{Rotation}
 use Rattle.geometric_moves.specs.Turn.{toward, rotate, opposite, facing, sameFace, quarterOf, inverseRot, whither}
 use Rattle.geometric_moves.proofs.RotationLaws.{toward-rotate, neg-toward}
-use Rattle.geometric_moves.proofs.TurnLaws.{toward-within}
+use Rattle.geometric_moves.proofs.TurnLaws.{seat-toward, toward-within}
 use Rattle.geometric_moves.proofs.FaceLaws.{same-face}
 use Rattle.facelet_cube.specs.InnerLanes.{ringFaces, ringEdges}
 use Rattle.facelet_cube.proofs.LaneLaws.{spots, spot-below}
@@ -52,14 +52,6 @@ pub edge-place-in : (n : ℕ) (g : Face) (e p q : ℕ) → p < n → q < n → I
 edge-place-in n g e p q hp hq =
     sticker-in n _ (record { slot = slotAt n g e p q; real = record { col-ok = spot-below n p q (e + 1) hp hq; row-ok = spot-below n p q e hp hq }; here = refl })
 
-seat-on : (n : ℕ) (g : Face) (c r : ℕ) → toward n (seat n g (mid c) (mid r)) g ≡ top n
-seat-on n U c r = refl
-seat-on n R c r = refl
-seat-on n F c r = refl
-seat-on n D c r = omega arith
-seat-on n L c r = omega arith
-seat-on n B c r = omega arith
-
 col-along : (n : ℕ) (g : Face) (c r : ℕ) → c < n → r < n → toward n (seat n g (mid c) (mid r)) (colAxis g) ≡ mid c
 col-along n U c r hc hr = refl
 col-along n R c r hc hr = omega arith
@@ -97,23 +89,23 @@ seen n g zero p q he hp hq =
     let c = col-along n g q p hq hp in
     let r = row-along n g q p hq hp in
     let a = neg-toward n _ (edge-place-in n g 0 p q hp hq) (rowAxis g) in
-    record { face = seat-on n g q p; edge = omega arith; next = c }
+    record { face = seat-toward n g q p; edge = omega arith; next = c }
 seen n g (suc zero) p q he hp hq =
     let k : n - 1 - p < n = omega arith in
-    record { face = seat-on n g _ _; edge = col-along n g _ _ k hq; next = row-along n g _ _ k hq }
+    record { face = seat-toward n g _ _; edge = col-along n g _ _ k hq; next = row-along n g _ _ k hq }
 seen n g (suc (suc zero)) p q he hp hq =
     let k : n - 1 - p < n = omega arith in
     let m : n - 1 - q < n = omega arith in
     let c = col-along n g (n - 1 - q) (n - 1 - p) m k in
     let a = neg-toward n _ (edge-place-in n g 2 p q hp hq) (colAxis g) in
-    record { face = seat-on n g _ _; edge = row-along n g _ _ m k; next = omega arith }
+    record { face = seat-toward n g _ _; edge = row-along n g _ _ m k; next = omega arith }
 seen n g (suc (suc (suc zero))) p q he hp hq =
     let m : n - 1 - q < n = omega arith in
     let c = col-along n g p (n - 1 - q) hp m in
     let r = row-along n g p (n - 1 - q) hp m in
     let a = neg-toward n _ (edge-place-in n g 3 p q hp hq) (colAxis g) in
     let b = neg-toward n _ (edge-place-in n g 3 p q hp hq) (rowAxis g) in
-    record { face = seat-on n g _ _; edge = omega arith; next = omega arith }
+    record { face = seat-toward n g _ _; edge = omega arith; next = omega arith }
 seen n g (suc (suc (suc (suc e)))) p q he hp hq = absurd (omega arith)
 
 pub unseen : (n : ℕ) (g : Face) (e p q : ℕ) (x : Pos) → e < 4 → p < n → q < n → InCube n x → Seen n x g e p q → x ≡ edgePlace n g e p q

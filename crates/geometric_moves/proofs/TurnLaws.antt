@@ -26,6 +26,15 @@ at-slot : {n : ℕ} {p : Pos} (f : Face) (c r : ℕ) → c < n → r < n → pla
 at-slot f c r hc hr e =
     record { slot = record { face = f; row = r; col = c }; real = record { col-ok = hc; row-ok = hr }; here = e }
 
+-- a sticker's coordinate is n towards its own face
+pub seat-toward : (n : ℕ) (g : Face) (c r : ℕ) → toward n (seat n g (mid c) (mid r)) g ≡ top n
+seat-toward n U c r = refl
+seat-toward n R c r = refl
+seat-toward n F c r = refl
+seat-toward n D c r = omega arith
+seat-toward n L c r = omega arith
+seat-toward n B c r = omega arith
+
 -- a quarter turn of a sticker's place is a sticker's place: which one, face by face
 module _ (n c r : ℕ) (hc : c < n) (hr : r < n) where
   seat-X : (f : Face) → Sticker n (rotate n rotX (seat n f (mid c) (mid r)))

@@ -19,7 +19,7 @@ use Rattle.sticker.proofs.PlaceLaws.{Sticker, face-seat, unflat-flat, flat-belo
 use Rattle.geometric_moves.specs.declared.Rotation.{Rotation}
 use Rattle.geometric_moves.specs.Turn.{toward, rotate, sameFace, whither, inverseRot, turnOf, quarterOf, kindFace, layersOf, takes, turned, target, source}
 use Rattle.geometric_moves.proofs.RotationLaws.{rotate-then}
-use Rattle.geometric_moves.proofs.TurnLaws.{toward-within, turned-sticker, target-below, target-add, target-none}
+use Rattle.geometric_moves.proofs.TurnLaws.{seat-toward, toward-within, turned-sticker, target-below, target-add, target-none}
 use Rattle.geometric_moves.proofs.MovedLaws.{moved-target}
 use Rattle.theorems.specs.Geometry.{signed, Point, point, pointOf, AtMost, RowsRise, FacesStand, Across, StickerPoint, PositionsStored, LiesOn, FacesTold, OneFace, QuarterX, QuarterY, QuarterZ, quarterPoint, QuarterUndone, turnPoint, InLayers, LayersTaken, WholeTaken, TakenTurn, OthersStay, TurnedOnOneFace, PlacesKept, StickersGo, EachIndexFixed}
 
@@ -142,16 +142,7 @@ module _ (n : ℕ) (p : Pos) (h : InCube n p) where
   lies-toward L = told-bot (p .x)
   lies-toward B = told-bot (p .z)
 
--- a sticker's coordinate is n towards its own face
-own-toward : (n : ℕ) (g : Face) (c r : ℕ) → toward n (seat n g (mid c) (mid r)) g ≡ top n
-own-toward n U c r = refl
-own-toward n R c r = refl
-own-toward n F c r = refl
-own-toward n D c r = omega arith
-own-toward n L c r = omega arith
-own-toward n B c r = omega arith
-
--- and towards no other
+-- a sticker's coordinate is n towards its own face (`seat-toward`) and towards no other
 no-other : (n : ℕ) (f g : Face) (c r : ℕ) → c < n → r < n → toward n (seat n g (mid c) (mid r)) f ≡ top n → g ≡ f
 no-other n U U c r hc hr e = refl
 no-other n U R c r hc hr e = absurd (omega arith)
@@ -209,8 +200,8 @@ seat-point n L c r hc hr = inl (inr (signed-bot n), across-neg n r hr, across n 
 seat-point n B c r hc hr = inr (inr (across-neg n c hc, across-neg n r hr, inr (signed-bot n)))
 
 module _ (n : ℕ) (f : Face) (c r : ℕ) (hc : c < n) (hr : r < n) (h : InCube n (seat n f (mid c) (mid r))) where
-  seat-on : LiesOn n f (pointOf n (seat n f (mid c) (mid r)))
-  seat-on = toward-lies n (seat n f (mid c) (mid r)) h f (own-toward n f c r)
+  seat-lies : LiesOn n f (pointOf n (seat n f (mid c) (mid r)))
+  seat-lies = toward-lies n (seat n f (mid c) (mid r)) h f (seat-toward n f c r)
 
   seat-only : (g : Face) → LiesOn n g (pointOf n (seat n f (mid c) (mid r))) → g ≡ f
   seat-only g l = sym (no-other n g f c r hc hr (lies-toward n (seat n f (mid c) (mid r)) h g l))
@@ -221,7 +212,7 @@ faces-told n j f h =
     let real = unflat-real n j h in
     let inside = sticker-in n (place n j) (place-sticker n j h) in
     let on : faceOf n (place n j) ≡ s .face = face-seat n (s .face) (s .col) (s .row) (real .col-ok) (real .row-ok) in (
-      λ e. subst (λ (g : Face). LiesOn n g (pointOf n (place n j))) (sym on ∙ e) (seat-on n (s .face) (s .col) (s .row) (real .col-ok) (real .row-ok) inside),
+      λ e. subst (λ (g : Face). LiesOn n g (pointOf n (place n j))) (sym on ∙ e) (seat-lies n (s .face) (s .col) (s .row) (real .col-ok) (real .row-ok) inside),
       λ l. on ∙ sym (seat-only n (s .face) (s .col) (s .row) (real .col-ok) (real .row-ok) inside f l),
     )
 
@@ -233,7 +224,7 @@ sticker-one n p s =
       seat-point n (t .face) (t .col) (t .row) (s .real .col-ok) (s .real .row-ok),
       record {
         face = t .face;
-        on = seat-on n (t .face) (t .col) (t .row) (s .real .col-ok) (s .real .row-ok) h;
+        on = seat-lies n (t .face) (t .col) (t .row) (s .real .col-ok) (s .real .row-ok) h;
         only = seat-only n (t .face) (t .col) (t .row) (s .real .col-ok) (s .real .row-ok) h;
       },
     )
