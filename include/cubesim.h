@@ -28,7 +28,7 @@ extern "C" {
 
 /* The version of this header, as VERSION has it. CHANGELOG.md says what a change of it means. */
 #define CUBESIM_VERSION_MAJOR 0
-#define CUBESIM_VERSION_MINOR 2
+#define CUBESIM_VERSION_MINOR 3
 #define CUBESIM_VERSION_PATCH 0
 #define CUBESIM_VERSION (CUBESIM_VERSION_MAJOR * 65536 + CUBESIM_VERSION_MINOR * 256 + CUBESIM_VERSION_PATCH)
 
@@ -84,11 +84,12 @@ uint64_t cubesim_apply_moves_to_ids(uint64_t n, uint16_t *ids, size_t ids_len, u
    Example: uint16_t all[36]; assert(cubesim_value(cubesim_all_moves(3, all, 36)) == 36 && cubesim_number(cubesim_all_moves(3, all, 35)) == 6); */
 uint64_t cubesim_all_moves(uint64_t n, uint16_t *out, size_t out_len);
 
-/* Reads a scramble by Article 12 of the WCA Regulations; the value is the count of moves. Refusals: 1; then the first bad token, 4 or 5,
-   with the offset of its first byte as the value; only then 6.
+/* Reads a scramble by Article 12 of the WCA Regulations; the value is the count of moves. Refusals: 1; then the first bad token's, with the
+   offset of the byte at fault as the value: 13 at its first digit, 12 where its letter should stand, 14 where it goes wrong behind the
+   letter, 5 at its start; 12's and 14's byte may be the token's end. Only then 6.
    Example: uint16_t out[4];
    Example: assert(cubesim_value(cubesim_parse_scramble(4, (const uint8_t *)"R2 3Uw'", 7, out, 4)) == 2 && out[0] == 14 && out[1] == 219);
-   Example: assert(cubesim_parse_scramble(3, (const uint8_t *)"R 2R", 4, out, 4) == 4 + 256 * 2); */
+   Example: assert(cubesim_parse_scramble(3, (const uint8_t *)"R 2R", 4, out, 4) == 14 + 256 * 4); */
 uint64_t cubesim_parse_scramble(uint64_t n, const uint8_t *text, size_t text_len, uint16_t *out, size_t out_len);
 
 /* Writes a list as a scramble; the value is the count of bytes. A wide width is 2 to n-1. Refusals 1, 3, 5, 6.

@@ -1,4 +1,4 @@
-/* Reads a scramble, turns a solved cube by it, and finds the turns that bring it home. */
+/* Shows where a mistyped scramble goes wrong; reads a good one, turns a solved cube by it, and finds the turns that bring it home. */
 #include "cubesim.h"
 #include <stdio.h>
 #include <stdlib.h>
@@ -13,8 +13,13 @@ static uint64_t taken(const char *what, uint64_t answer) {
     return cubesim_value(answer);
 }
 
+/* A refused scramble with a mark under the byte to retype, as an operator would see it. */
+static void point_at(const char *scramble, uint64_t answer) {
+    printf("%s\n%*s^ refused %u\n", scramble, (int)cubesim_value(answer), "", cubesim_number(answer));
+}
+
 int main(void) {
-    static const char scramble[] = "U2 D2 R2";
+    static const char slip[] = "U2 2D R2", scramble[] = "U2 D2 R2";
     static const uint16_t halves[] = {2, 22, 10, 18, 6, 14}; /* U2 D2 F2 B2 L2 R2 */
     enum { SIZE = 3, STICKERS = 6 * SIZE * SIZE, LIMIT = 4 };
     uint8_t cube[STICKERS], work[(LIMIT + 1) * STICKERS], table[64 * (STICKERS + 1)], text[64];
@@ -24,6 +29,8 @@ int main(void) {
         printf("the library is of another version than its header\n");
         return 1;
     }
+    uint64_t answer = cubesim_parse_scramble(SIZE, (const uint8_t *)slip, strlen(slip), moves, 16);
+    if (cubesim_number(answer) >= 12) point_at(slip, answer);
     uint64_t count = taken("parse", cubesim_parse_scramble(SIZE, (const uint8_t *)scramble, strlen(scramble), moves, 16));
     taken("solved", cubesim_solved(SIZE, cube, STICKERS));
     uint64_t entries = taken("table", cubesim_pruning_table(SIZE, cube, STICKERS, halves, 6, 2, table, sizeof table));

@@ -56,8 +56,6 @@ pub enum Refusal {
     Length,
     /// 3
     Code,
-    /// 4, with the byte at which the token starts
-    Token(usize),
     /// 5, from the parser with the byte at which the token starts
     Width(Option<usize>),
     /// 6
@@ -70,6 +68,12 @@ pub enum Refusal {
     Work,
     /// 10
     Index,
+    /// 12, with the byte at which the letter should stand
+    Letter(usize),
+    /// 13, with the first digit's byte
+    Digits(usize),
+    /// 14, with the byte at which the token goes wrong behind its letter
+    Ending(usize),
 }
 
 impl Refusal {
@@ -79,20 +83,22 @@ impl Refusal {
             Refusal::Size => 1,
             Refusal::Length => 2,
             Refusal::Code => 3,
-            Refusal::Token(_) => 4,
             Refusal::Width(_) => 5,
             Refusal::Room => 6,
             Refusal::Bounds => 7,
             Refusal::Table => 8,
             Refusal::Work => 9,
             Refusal::Index => 10,
+            Refusal::Letter(_) => 12,
+            Refusal::Digits(_) => 13,
+            Refusal::Ending(_) => 14,
         }
     }
 
-    /// The byte at which a refused token starts, where the refusal carries it.
+    /// The byte of a refused text to look at, where the refusal carries it; it may be the text's end.
     pub fn place(self) -> Option<usize> {
         match self {
-            Refusal::Token(at) => Some(at),
+            Refusal::Letter(at) | Refusal::Digits(at) | Refusal::Ending(at) => Some(at),
             Refusal::Width(at) => at,
             _ => None,
         }
@@ -103,13 +109,15 @@ impl Refusal {
             1 => Refusal::Size,
             2 => Refusal::Length,
             3 => Refusal::Code,
-            4 => Refusal::Token(value),
             5 => Refusal::Width(if placed { Some(value) } else { None }),
             6 => Refusal::Room,
             7 => Refusal::Bounds,
             8 => Refusal::Table,
             9 => Refusal::Work,
             10 => Refusal::Index,
+            12 => Refusal::Letter(value),
+            13 => Refusal::Digits(value),
+            14 => Refusal::Ending(value),
             other => unreachable!("libcubesim.a has no refusal {other}"),
         }
     }
@@ -121,13 +129,16 @@ impl fmt::Display for Refusal {
             Refusal::Size => "the size is outside its range",
             Refusal::Length => "a slice is not as long as the cube needs it",
             Refusal::Code => "a code is no move",
-            Refusal::Token(_) => "a token is not in the grammar",
-            Refusal::Width(_) => "a width is outside its range",
+            Refusal::Width(None) => "a width is outside its range",
+            Refusal::Width(Some(_)) => "the width of the token here must be above 1 and below the size; without digits it is 2",
             Refusal::Room => "the output is too short",
             Refusal::Bounds => "too many candidates, or a limit or depth above 20",
             Refusal::Table => "a table is not whole entries with rising keys",
             Refusal::Work => "the work area is too short",
             Refusal::Index => "no such sticker or id",
+            Refusal::Letter(_) => "a letter must stand here: U R F L D B, or x y z where no width stands before it",
+            Refusal::Digits(_) => "the width that starts here must be one to three digits, the first not 0",
+            Refusal::Ending(_) => "here stands w where a width came before the letter; else at most one 2 or ' and then the token's end",
         };
         write!(f, "refused {}", self.number())?;
         if let Some(at) = self.place() {
@@ -264,15 +275,19 @@ pub fn all_moves(n: usize, out: &mut [u16]) -> Result<usize, Refusal> {
     taken(unsafe { raw::cubesim_all_moves(n as u64, out.as_mut_ptr(), out.len()) }, false)
 }
 
-/// Reads a scramble by Article 12 of the WCA Regulations; the answer is the count of moves. There are never more moves than bytes.
+/// Reads a scramble by Article 12 of the WCA Regulations; the answer is the count of moves. There are never more moves than bytes. A refused text
+/// is told by the first bad token's byte at fault, and the refusal as text says what may stand there.
 ///
 /// ```
 /// use cubesim_proved::{parse_scramble, Refusal};
 /// let mut out = [0u16; 4];
 /// assert_eq!(parse_scramble(4, b"R2 3Uw'", &mut out), Ok(2));
 /// assert_eq!(out[..2], [14, 219]);
-/// assert_eq!(parse_scramble(3, b"R 2R", &mut out), Err(Refusal::Token(2)));
-/// assert_eq!(parse_scramble(4, b"4Uw", &mut out).unwrap_err().to_string(), "refused 5 at 0: a width is outside its range");
+/// assert_eq!(parse_scramble(3, b"R 2R", &mut out), Err(Refusal::Ending(4)));
+/// assert_eq!(parse_scramble(3, b"R 2x", &mut out), Err(Refusal::Letter(3)));
+/// let refused = parse_scramble(4, b"R 02Uw", &mut out).unwrap_err();
+/// assert_eq!((refused.number(), refused.place()), (13, Some(2)));
+/// assert_eq!(refused.to_string(), "refused 13 at 2: the width that starts here must be one to three digits, the first not 0");
 /// ```
 pub fn parse_scramble(n: usize, text: &[u8], out: &mut [u16]) -> Result<usize, Refusal> {
     taken(unsafe { raw::cubesim_parse_scramble(n as u64, text.as_ptr(), text.len(), out.as_mut_ptr(), out.len()) }, true)

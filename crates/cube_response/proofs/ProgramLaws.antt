@@ -12,9 +12,9 @@ use borrow.Author.Tests.{eq-eqb, ne-eqb, lt-ltb, le-ltb, lt-leb, le-leb, leb-tru
 use Rattle.ground.proofs.ChoiceLaws.{anyBelow, bool-cases, between-bounds, position-here, position-next, position-end, position-most, tested, less-cases}
 use Rattle.ground.specs.Choice.{position, between}
 use Rattle.generic_cube.specs.Code.{outside}
-use Rattle.scramble_parser.specs.Token.{digitOf, isDigit, digitsOf, numberOf}
-use Rattle.scramble_parser.proofs.TokenLaws.{digit-back}
-use Rattle.scramble_parser.specs.Words.{tokensOf}
+use Rattle.tokens.specs.Token.{digitOf, isDigit, digitsOf, numberOf}
+use Rattle.tokens.proofs.TokenLaws.{digit-back}
+use Rattle.tokens.specs.Words.{tokensOf}
 use Rattle.scramble_parser.specs.Parse.{reading}
 use Rattle.io.specs.Digits.{glyph, digits, Fewest}
 use Rattle.cube_response.specs.Program.{firstLine, afterLine, lineTwo, tooLong, tooLongText, refusedText, feed, isSize, sizeOf, decimalIn, decimal, scrambleAnswer, answerTo, response}

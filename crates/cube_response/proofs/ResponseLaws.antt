@@ -21,7 +21,7 @@ use Rattle.ground.specs.Inner.{Put}
 use Rattle.ground.proofs.PutLaws.{put-then}
 use Rattle.scramble_parser.specs.declared.Parsed.{Parsed}
 use Rattle.scramble_parser.specs.declared.Parsed.the-variants.{Moves, Refused, RefusedAt}
-use Rattle.scramble_parser.specs.Words.{tokensOf}
+use Rattle.tokens.specs.Words.{tokensOf}
 use Rattle.scramble_parser.specs.Parse.{Reading, codes, bad, reading, answerOf, filledBy, parseAnswer, parseOut, ParseResult}
 use Rattle.scramble_parser.proofs.ParseLaws.{reading-taken, reading-few}
 use Rattle.geometric_moves.specs.Turn.{run}

@@ -6,8 +6,8 @@ use mathlib.Core.List.{List, [], _∷_, _++_}
 use lib.ListN.{length, getD, take, drop}
 use lib.Dec.{ltb, leb, eqb}
 use Rattle.ground.specs.Choice.{pick, position, between}
-use Rattle.scramble_parser.specs.Token.{digitsOf, numberOf}
-use Rattle.scramble_parser.specs.Words.{tokensOf}
+use Rattle.tokens.specs.Token.{digitsOf, numberOf}
+use Rattle.tokens.specs.Words.{tokensOf}
 use Rattle.scramble_parser.specs.Parse.{Reading, codes, bad, reading}
 use Rattle.geometric_moves.specs.Turn.{run}
 use Rattle.facelet_cube.specs.Cube.{solvedCube}

@@ -2,7 +2,6 @@
 ghost use mathlib.Core.Path.{_≡_};
 ghost use Rattle.ground.specs.Choice.{position};
 ghost use Rattle.cube_response.specs.Program.{firstLine, afterLine, sizeOf};
-use scramble_parser::tokens;
 
 // A line ends at byte 10 or the end of input.
 fn line_end(input: &[u8]) -> usize

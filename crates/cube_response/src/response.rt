@@ -4,7 +4,7 @@ ghost use mathlib.Core.List.{_++_};
 ghost use Prim.Native.Nat.{_≤_};
 ghost use lib.ListN.{length};
 ghost use Rattle.generic_cube.specs.Code.{listRefusal};
-ghost use Rattle.scramble_parser.specs.Words.{tokensOf};
+ghost use Rattle.tokens.specs.Words.{tokensOf};
 ghost use Rattle.scramble_parser.specs.Parse.{reading};
 ghost use Rattle.geometric_moves.specs.Turn.{run};
 ghost use Rattle.facelet_cube.specs.Cube.{solvedCube};

@@ -7,8 +7,8 @@ ghost use Rattle.generic_cube.specs.StickerIndex.{stickerRefusal, stickerIndex}
 ghost use Rattle.facelet_cube.specs.Apply.{ApplyMovesResult};
 ghost use Rattle.facelet_cube.specs.Cube.{verdict, verdictNo, verdictValue, SolvedResult, SolvedIdsResult, MaskResult};
 ghost use Rattle.scramble_parser.specs.Parse.{ParseResult, parsedNo, parsedValue};
-ghost use Rattle.scramble_parser.specs.Write.{WriteResult};
-ghost use Rattle.scramble_parser.specs.Lists.{SimplifyResult, InvertResult};
+ghost use Rattle.scramble_writer.specs.Write.{WriteResult};
+ghost use Rattle.move_lists.specs.Lists.{SimplifyResult, InvertResult};
 ghost use Rattle.pruning_table.specs.PruningTable.{PruningTableResult};
 ghost use Rattle.ida_star.specs.IdaStar.{IdaStarResult, outcomeNo, outcomeValue};
 ghost use Rattle.cubesim.specs.Pack.{pack, version, Packed};
@@ -91,7 +91,7 @@ fn pack_found(k: usize) -> u64
 pub extern "C" fn cubesim_version() -> u64
     ensures { λ r. ⌜ r ≡ version ⌝ }
 {
-    0 * 65536 + 2 * 256 + 0
+    0 * 65536 + 3 * 256 + 0
 }
 
 // The solved cube.
@@ -181,7 +181,7 @@ pub extern "C" fn cubesim_parse_scramble(n: usize, text: &[u8], out: &mut [MoveC
 pub extern "C" fn cubesim_write_scramble(n: usize, moves: &[MoveCode], out: &mut [u8]) -> u64
     ensures { λ r. ⌜ Packed answerNo answerValue (WriteResult n (now (moves .entry)) (now (out .entry)) (now (out .exit))) r ⌝ }
 {
-    pack_answer(scramble_parser::write::write_scramble(n, moves, out))
+    pack_answer(scramble_writer::write_scramble(n, moves, out))
 }
 
 // Joins neighbours until none join.
@@ -189,7 +189,7 @@ pub extern "C" fn cubesim_write_scramble(n: usize, moves: &[MoveCode], out: &mut
 pub extern "C" fn cubesim_simplify_moves(n: usize, moves: &[MoveCode], out: &mut [MoveCode]) -> u64
     ensures { λ r. ⌜ Packed answerNo answerValue (SimplifyResult n (now (moves .entry)) (now (out .entry)) (now (out .exit))) r ⌝ }
 {
-    pack_answer(scramble_parser::lists::simplify_moves(n, moves, out))
+    pack_answer(move_lists::simplify_moves(n, moves, out))
 }
 
 // The list that undoes a list.
@@ -197,7 +197,7 @@ pub extern "C" fn cubesim_simplify_moves(n: usize, moves: &[MoveCode], out: &mut
 pub extern "C" fn cubesim_invert_moves(n: usize, moves: &[MoveCode], out: &mut [MoveCode]) -> u64
     ensures { λ r. ⌜ Packed answerNo answerValue (InvertResult n (now (moves .entry)) (now (out .entry)) (now (out .exit))) r ⌝ }
 {
-    pack_answer(scramble_parser::lists::invert_moves(n, moves, out))
+    pack_answer(move_lists::invert_moves(n, moves, out))
 }
 
 // A pruning table.

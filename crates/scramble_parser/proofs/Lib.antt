@@ -1,6 +1,1 @@
-pub mod TokenLaws
-pub mod WordLaws
 pub mod ParseLaws
-pub mod WriteLaws
-pub mod SimplifyLaws
-pub mod ListLaws

@@ -6,24 +6,25 @@ use mathlib.Core.List.{List, [], _∷_}
 use native.Mathlib.Omega.{arith}
 use native.Mathlib.Numerals.{add-one}
 use native.Mathlib.Nat.{zero-add}
-use lib.ListN.{length, take, drop, set, length-set}
-use lib.Seq.{sets, sets-eq}
+use lib.ListN.{length, take, drop, set, length-set, length-drop}
+use lib.Seq.{sets, sets-eq, length-take-le}
 use lib.Dec.{ltb}
 use borrow.Author.Tests.{le-ltb, lt-ltb}
 use Rattle.ground.proofs.ChoiceLaws.{bool-cases}
 use Rattle.generic_cube.specs.Sizes.{sized}
 use Rattle.generic_cube.specs.Code.{moveOf, isWide, refusalIn, listRefusal}
 use Rattle.generic_cube.proofs.CodeLaws.{Good, AllGood, good-taken, inside, inside-not}
-use Rattle.scramble_parser.specs.Token.{readToken}
-use Rattle.scramble_parser.specs.Words.{Run, wordsFrom, tokensOf}
+use Rattle.tokens.specs.Token.{readToken}
+use Rattle.tokens.specs.Words.{Run, wordsFrom, tokensOf}
 use Rattle.scramble_parser.specs.Parse.{Reading, codes, bad, ahead, reading, parseAnswer, parseOut, ParseResult}
-use Rattle.scramble_parser.specs.Inner.{Found, tally, upTo, prefix}
-use Rattle.scramble_parser.specs.declared.Token.{Token}
-use Rattle.scramble_parser.specs.declared.Token.the-variants.{Is, Not}
+use Rattle.tokens.specs.Inner.{Found}
+use Rattle.scramble_parser.specs.Inner.{tally, upTo, prefix}
+use Rattle.tokens.specs.declared.Token.{Token}
+use Rattle.tokens.specs.declared.Token.the-variants.{Is, Not}
 use Rattle.scramble_parser.specs.declared.Parsed.{Parsed}
 use Rattle.scramble_parser.specs.declared.Parsed.the-variants.{Moves, Refused, RefusedAt}
-use Rattle.scramble_parser.proofs.WordLaws.{words-few}
-use Rattle.scramble_parser.proofs.TokenLaws.{token-good}
+use Rattle.tokens.proofs.WordLaws.{words-few}
+use Rattle.tokens.proofs.TokenLaws.{token-good, place-within}
 
 -- ---- the pass that counts
 
@@ -54,9 +55,15 @@ module _ {n : ℕ} {text : List ℕ} {i count : ℕ} (g : Counted n text i count
           same = rw (f .one, ← t) (sym (tally-is count c s (reading n (wordsFrom [] text e)))) ∙ g .same;
         }
 
-    pub count-bad : {k : ℕ} → Not k ≡ readToken n (take (e - s) (drop s text)) → RefusedAt k s ≡ tally 0 (reading n (tokensOf text))
-    unfolding reading
-    count-bad t = rw (f .one, ← t) at (g .same)
+    module _ {k p : ℕ} (t : Not k p ≡ readToken n (take (e - s) (drop s text))) where
+      pub count-bad : RefusedAt k (s + p) ≡ tally 0 (reading n (tokensOf text))
+      unfolding reading
+      count-bad = rw (f .one, ← t) at (g .same)
+
+      pub bad-within : s + p ≤ length text
+      bad-within =
+          let w = f .within in
+          omega (arith, place-within n (take (e - s) (drop s text)) t, length-take-le (e - s) (drop s text) (omega (arith, length-drop s text)))
 
 -- ---- the pass that writes
 
@@ -76,7 +83,7 @@ module _ {n : ℕ} {text out₀ out : List ℕ} {i j : ℕ} (g : Stored n text o
   store-end h = rw h at (g .same)
 
   module _ {s e : ℕ} (f : Found [] text i s e) where
-    pub store-bad : {k : ℕ} → Not k ≡ readToken n (take (e - s) (drop s text)) → out ≡ sets out₀ 0 (prefix n (tokensOf text))
+    pub store-bad : {k p : ℕ} → Not k p ≡ readToken n (take (e - s) (drop s text)) → out ≡ sets out₀ 0 (prefix n (tokensOf text))
     unfolding prefix
     store-bad t = rw (f .one, ← t) at (g .same)
 
@@ -98,7 +105,7 @@ module _ {n : ℕ} {text out₀ out : List ℕ} {i j : ℕ} (g : Stored n text o
 
 prefix-ahead : (t : Token) (s : ℕ) (r : Reading) (ps cs : List ℕ) → ((ds : List ℕ) → r ≡ codes ds → ps ≡ ds)
     → ahead t s r ≡ codes cs → upTo t ps ≡ cs
-prefix-ahead (Not k) s r ps cs h e = let z : _≡_ {A = ℕ} 0 1 = cc in absurd (omega arith)
+prefix-ahead (Not k p) s r ps cs h e = let z : _≡_ {A = ℕ} 0 1 = cc in absurd (omega arith)
 prefix-ahead (Is c) s (codes ds) ps cs h e =
     let p : ps ≡ ds = h ds refl in
     cc
@@ -179,7 +186,7 @@ good-wider n c g =
 up-good : (n : ℕ) (t : List ℕ) (k : Token) (cs : List ℕ) → readToken n t ≡ k → AllGood 1 n cs → AllGood 1 n (upTo k cs)
 unfolding AllGood
 up-good n t (Is c) cs e g = (good-wider n c (token-good n t c e), g)
-up-good n t (Not k) cs e g = tt
+up-good n t (Not k p) cs e g = tt
 
 prefix-good : (n : ℕ) (ws : List Run) → AllGood 1 n (prefix n ws)
 unfolding prefix AllGood
@@ -195,7 +202,7 @@ reading-taken n ws cs e = good-taken 1 n cs (subst (AllGood 1 n) (prefix-codes n
 
 up-few : (k : Token) (cs : List ℕ) → length (upTo k cs) ≤ 1 + length cs
 up-few (Is c) cs = omega arith
-up-few (Not k) cs = omega arith
+up-few (Not k p) cs = omega arith
 
 prefix-few : (n : ℕ) (ws : List Run) → length (prefix n ws) ≤ length ws
 unfolding prefix

@@ -1,6 +1,2 @@
-pub mod Token
-pub mod Words
 pub mod Parse
-pub mod Write
-pub mod Lists
 pub mod Inner

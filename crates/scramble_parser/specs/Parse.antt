@@ -1,5 +1,5 @@
 -- What a text reads as, and what `parse_scramble` answers and leaves in its output.
-use Prim.Native.Nat.{ℕ}
+use Prim.Native.Nat.{ℕ, _+_}
 use mathlib.Core.Path.{_≡_}
 use mathlib.Core.List.{List, [], _∷_}
 use lib.ListN.{length}
@@ -7,23 +7,23 @@ use lib.Dec.{ltb}
 use Rattle.ground.specs.Choice.{pick}
 use Rattle.ground.specs.Lists.{over}
 use Rattle.generic_cube.specs.Sizes.{sized}
-use Rattle.scramble_parser.specs.Token.{readToken}
-use Rattle.scramble_parser.specs.Words.{Run, tokensOf}
-use Rattle.scramble_parser.specs.declared.Token.{Token}
-use Rattle.scramble_parser.specs.declared.Token.the-variants.{Is, Not}
+use Rattle.tokens.specs.Token.{readToken}
+use Rattle.tokens.specs.Words.{Run, tokensOf}
+use Rattle.tokens.specs.declared.Token.{Token}
+use Rattle.tokens.specs.declared.Token.the-variants.{Is, Not}
 use Rattle.scramble_parser.specs.declared.Parsed.{Parsed}
 use Rattle.scramble_parser.specs.declared.Parsed.the-variants.{Moves, Refused, RefusedAt}
 
--- the codes of a text, or the number of its first bad token (4 or 5) and the byte offset of the token's start
+-- the codes of a text, or why its first bad token is none: the number and the byte offset
 pub data Reading : Type 0 where
   codes : List ℕ → Reading
   bad : ℕ → ℕ → Reading
 
--- a token at `at` in front of what follows it: a bad one wins over all that follows
+-- a token that starts at `start` in front of what follows it: a bad one wins over all that follows
 abbrev pub ahead : Token → ℕ → Reading → Reading
-ahead (Not k) at r = bad k at
-ahead (Is c) at (codes cs) = codes (c ∷ cs)
-ahead (Is c) at (bad k a) = bad k a
+ahead (Not k place) start r = bad k (start + place)
+ahead (Is c) start (codes cs) = codes (c ∷ cs)
+ahead (Is c) start (bad k at) = bad k at
 
 unfoldable pub reading : ℕ → List Run → Reading
 reading n [] = codes []
@@ -57,7 +57,7 @@ parsedNo (Moves count) = 0
 parsedNo (Refused k) = k
 parsedNo (RefusedAt k at) = k
 
--- and its value: the count, or the place of a bad token, else 0
+-- and its value: the count, or a bad token's place, else 0
 abbrev pub parsedValue : Parsed → ℕ
 parsedValue (Moves count) = count
 parsedValue (Refused k) = 0

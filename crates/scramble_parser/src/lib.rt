@@ -1,43 +1,22 @@
-// The scramble reader and writer, and lists of codes: scramble_parser.rs.
+// The scramble reader: scramble_parser.rs.
 ghost use mathlib.Core.Path.{_≡_};
 ghost use mathlib.Core.Bool.{true};
 ghost use Prim.Native.Nat.{_≤_};
 ghost use lib.ListN.{length};
 ghost use lib.Seq.{sets};
 ghost use Rattle.generic_cube.specs.Sizes.{sized};
-ghost use Rattle.scramble_parser.specs.Words.{tokensOf};
+ghost use Rattle.tokens.specs.Words.{tokensOf};
 ghost use Rattle.scramble_parser.specs.Parse.{reading, ParseResult};
 ghost use Rattle.scramble_parser.specs.Inner.{tally, prefix};
 use ground::codes::MoveCode;
+use tokens::Next;
+use tokens::Token;
 
-pub mod lists;
-pub mod tokens;
-pub mod words;
-pub mod write;
-
-// What a text reads as: how many moves, or the number of a refusal, for a bad token with the place where it starts.
+// What a text reads as: how many moves, or the number of a refusal, for a bad token with the byte at fault.
 pub enum Parsed {
     Moves(usize),
     Refused(u8),
     RefusedAt(u8, usize),
-}
-
-// A token's answer: the code of a move, or the number of a refusal.
-pub enum Token {
-    Is(MoveCode),
-    Not(u8),
-}
-
-// A suffix: its turn, and how many bytes it takes.
-pub struct Mark {
-    pub turn: usize,
-    pub size: usize,
-}
-
-// What follows a place of the text: a word, or nothing more.
-pub enum Next {
-    End,
-    Word { start: usize, end: usize },
 }
 
 // Reads the whole text and counts its moves, or finds its first bad token.
@@ -48,7 +27,7 @@ fn count_moves(n: usize, text: &[u8]) -> Parsed
     let mut i = 0;
     let mut count: usize = 0;
     loop {
-        let Next::Word { start, end } = words::next_token(text, i) else {
+        let Next::Word { start, end } = tokens::words::next_token(text, i) else {
             return Parsed::Moves(count);
         };
         match tokens::read_token(n, &text[start..end]) {
@@ -56,8 +35,9 @@ fn count_moves(n: usize, text: &[u8]) -> Parsed
                 count += 1;
                 i = end;
             }
-            Token::Not(number) => {
-                return Parsed::RefusedAt(number, start);
+            Token::Not(number, place) => {
+                let at = start + place;
+                return Parsed::RefusedAt(number, at);
             }
         }
     }
@@ -71,7 +51,7 @@ fn write_moves(n: usize, text: &[u8], out: &mut [MoveCode])
     let mut i = 0;
     let mut j: usize = 0;
     loop {
-        let Next::Word { start, end } = words::next_token(text, i) else {
+        let Next::Word { start, end } = tokens::words::next_token(text, i) else {
             return;
         };
         let Token::Is(code) = tokens::read_token(n, &text[start..end]) else {

@@ -18,7 +18,7 @@ use Rattle.generic_cube.specs.declared.Answer.{Answer}
 use Rattle.generic_cube.specs.declared.Answer.the-variants.{Value, Refused}
 use Rattle.generic_cube.specs.Sizes.{stickers}
 use Rattle.generic_cube.specs.Code.{codeOf, moveOf}
-use Rattle.scramble_parser.specs.Lists.{Turned, inverseOf}
+use Rattle.move_lists.specs.Lists.{Turned, inverseOf}
 use Rattle.geometric_moves.specs.Turn.{moved, run}
 use Rattle.geometric_moves.proofs.MovedLaws.{moved-back}
 use Rattle.table.specs.Table.{bytes, entryCount, wellFormed}

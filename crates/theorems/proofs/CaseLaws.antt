@@ -7,14 +7,14 @@ use Rattle.generic_cube.specs.Sizes.{sized}
 use Rattle.generic_cube.specs.Code.{codeOf, moveOf, turnedTo, outside, joins}
 use Rattle.generic_cube.specs.StickerIndex.{stickerRefusal, stickerIndex}
 use Rattle.geometric_moves.specs.Turn.{sameFace, whither, inverseRot, turnOf, quarterOf, kindFace, layersOf, takes, target, source, moved, run}
-use Rattle.scramble_parser.specs.Token.{digitOf, isDigit, digitsOf, numberOf, tokenWidth, letterOf, isWideToken, plainKind, markOf, suffixAt, tokenMove, badDigits, noLetter, noW, bytesLeft, badTokenWidth, tokenRefusal, readBehind, readToken}
-use Rattle.scramble_parser.specs.Words.{isSpace, isSign, endsWord, wordBytes, words}
+use Rattle.tokens.specs.Token.{digitOf, isDigit, digitsOf, numberOf, tokenWidth, letterOf, isWideToken, plainKind, markOf, suffixAt, tokenMove, badDigits, noLetter, noW, bytesLeft, badTokenWidth, unlessFault, readBehind, readToken}
+use Rattle.tokens.specs.Words.{isSpace, isSign, endsWord, wordBytes, words}
 use Rattle.scramble_parser.specs.Parse.{reading, parseAnswer}
-use Rattle.scramble_parser.specs.Lists.{push, simplify}
+use Rattle.move_lists.specs.Lists.{push, simplify}
 use Rattle.theorems.specs.Cases.{Cases}
 
 pub cases : Cases
-unfolding between position any tabulate lowest sized codeOf moveOf turnedTo outside joins stickerRefusal stickerIndex sameFace whither inverseRot turnOf quarterOf kindFace layersOf takes target source moved run digitOf isDigit digitsOf numberOf tokenWidth letterOf isWideToken plainKind markOf suffixAt tokenMove badDigits noLetter noW bytesLeft badTokenWidth tokenRefusal readBehind readToken isSpace isSign endsWord wordBytes words reading parseAnswer push simplify
+unfolding between position any tabulate lowest sized codeOf moveOf turnedTo outside joins stickerRefusal stickerIndex sameFace whither inverseRot turnOf quarterOf kindFace layersOf takes target source moved run digitOf isDigit digitsOf numberOf tokenWidth letterOf isWideToken plainKind markOf suffixAt tokenMove badDigits noLetter noW bytesLeft badTokenWidth unlessFault readBehind readToken isSpace isSign endsWord wordBytes words reading parseAnswer push simplify
 cases = record {
   r2 = refl;
   uw = refl;
@@ -30,4 +30,5 @@ cases = record {
   zero-first = refl;
   uw-on-2 = refl;
   empty = refl;
+  no-w = refl;
 }

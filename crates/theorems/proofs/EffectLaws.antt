@@ -11,8 +11,8 @@ use Rattle.ground.proofs.ChoiceLaws.{bool-cases}
 use Rattle.generic_cube.specs.Sizes.{stickers}
 use Rattle.generic_cube.specs.Code.{moveOf, withTurn, back, joins, refusalIn, listRefusal}
 use Rattle.generic_cube.proofs.CodeLaws.{kind-most, turn-most, move-code, move-turned, joins-move, code-bounds, AllGood, taken-good}
-use Rattle.scramble_parser.specs.Lists.{turnSum, joined, join, Turned, Step, here, there, Steps, done, then, inverseOf, inverse}
-use Rattle.scramble_parser.proofs.SimplifyLaws.{join-vanish, join-stay}
+use Rattle.move_lists.specs.Lists.{turnSum, joined, join, Turned, Step, here, there, Steps, done, then, inverseOf, inverse}
+use Rattle.move_lists.proofs.SimplifyLaws.{join-vanish, join-stay}
 use Rattle.geometric_moves.specs.Turn.{kindFace, layersOf, takes, target, source, moved, run}
 use Rattle.geometric_moves.proofs.MovedLaws.{length-moved, moved-add, moved-none, moved-back, run-append}
 use Rattle.theorems.specs.Effects.{SimplifyKeeps, InverseUndoes, PlainIsWide}

@@ -1,4 +1,4 @@
--- The tokens that are read are those of the grammar, and no others; and why another is refused.
+-- The tokens that are read are those of the grammar, and no others.
 use Prim.Native.Nat.{ℕ, suc, _+_, _-_, _*_, _≤_, _<_}
 use mathlib.Core.Path.{_≡_, refl, sym, ap, subst, _∙_}
 use mathlib.Core.Bool.{Bool, true, false, true≢false, not}
@@ -8,18 +8,17 @@ use native.Mathlib.Numerals.{add-one, add-two}
 use lib.ListN.{length, getD, take, drop, length-append, length-drop, take-append-drop}
 use lib.Seq.{drop-cons, getD-drop, getD-append-seam, getD-append-add}
 use lib.Dec.{ltb, eqb}
-use borrow.Author.Tests.{eq-eqb, ne-eqb, lt-ltb, eqb-true, not-true, not-false}
+use borrow.Author.Tests.{eq-eqb, ne-eqb, lt-ltb, eqb-true, not-true}
 use Rattle.ground.specs.Choice.{pick, any, position, between}
-use Rattle.ground.specs.Refusals.{lowest}
 use Rattle.ground.proofs.ChoiceLaws.{anyBelow, bool-cases, bounds-between, position-found, tested}
 use Rattle.generic_cube.specs.declared.Move.{Move}
 use Rattle.generic_cube.specs.Code.{move, moveOf, codeOf, isWide, badWidthIn}
 use Rattle.generic_cube.proofs.AllMovesLaws.{holds-at}
 use Rattle.generic_cube.proofs.CodeLaws.{code-move, move-code, inside, inside-not}
-use Rattle.scramble_parser.specs.declared.Token.the-variants.{Is, Not}
-use Rattle.scramble_parser.specs.Token.{digitOf, isDigit, digitsOf, numberOf, tokenWidth, kindLetters, letterOf, letterAt, isWideToken, plainKind, markOf, suffixAt, tokenEnd, tokenMove, badDigits, noLetter, noW, bytesLeft, badTokenWidth, tokenRefusal, readBehind, readToken}
-use Rattle.scramble_parser.proofs.TokenLaws.{digit-back, plain-kind, wide-of, wide-letter, digits-parts, parts-digits, letter-parts, parts-letter, w-parts, parts-w, wide-move, plain-move, suffix-wide, suffix-plain}
-use Rattle.theorems.specs.Notation.{Suffix, quarterMark, halfMark, counterMark, Width, noDigits, oneDigit, twoDigits, threeDigits, Shaped, plainToken, wideToken, WidthTaken, Spelled, Accepts, AcceptsNoOther, RefusesWidth, RefusesForm}
+use Rattle.tokens.specs.declared.Token.the-variants.{Is, Not}
+use Rattle.tokens.specs.Token.{digitOf, isDigit, digitsOf, numberOf, tokenWidth, kindLetters, letterOf, letterAt, isWideToken, plainKind, markOf, suffixAt, tokenEnd, tokenMove, badTokenWidth, unlessFault, readBehind, readToken}
+use Rattle.tokens.proofs.TokenLaws.{digit-back, plain-kind, wide-of, wide-letter, parts-digits, parts-letter, parts-w, parts-width, end-left, Formed, token-code, wide-move, plain-move, suffix-wide, suffix-plain}
+use Rattle.theorems.specs.Notation.{Suffix, quarterMark, halfMark, counterMark, Width, noDigits, oneDigit, twoDigits, threeDigits, Shaped, plainToken, wideToken, WidthTaken, Spelled, Accepts, AcceptsNoOther}
 
 -- ---- a byte and what it reads as
 
@@ -91,45 +90,14 @@ width-read l g (threeDigits a b c z h i j) =
       value = rw (digit-of a h, digit-of b i, digit-of c j);
     }
 
--- what the reader finds where 4 is not given, k digits at the front
-pub record Formed (t : List ℕ) (k : ℕ) : Type 0 where
-  pub first : getD t 0 0 ≡ 48 → ⊥
-  pub few : k ≤ 3
-  pub letter : letterAt t k < 9
-  pub plain : isWideToken t k ≡ false → k ≡ 0
-  pub end : length t ≡ tokenEnd t k
-
--- and with the move
+-- what the reader finds in a token of the grammar, k digits at its front, with the move
 pub record ReadAs (t : List ℕ) (k : ℕ) (m : Move) : Type 0 where
   pub count : digitsOf t ≡ k
   pub form : Formed t k
   pub is : tokenMove t k ≡ m
 
-left-end : (t : List ℕ) (k : ℕ) → bytesLeft t k ≡ false → length t ≡ tokenEnd t k
-unfolding bytesLeft
-left-end t k d = eqb-true _ _ (not-false _ d)
-
-pub formed-by : (t : List ℕ) (k : ℕ) → badDigits t k ≡ false → noLetter t k ≡ false → noW t k ≡ false → bytesLeft t k ≡ false → Formed t k
-formed-by t k a b c d =
-    let z = digits-parts t k a in
-    record { first = z .0; few = z .1; letter = letter-parts t k b; plain = w-parts t k c; end = left-end t k d }
-
 module _ (n : ℕ) (t : List ℕ) (k : ℕ) where
-  -- 4 is given, or this is found
-  formed-cases {ℓ} : {A : Type ℓ} → (tokenRefusal n t k ≡ 4 → A) → (Formed t k → A) → A
-  unfolding tokenRefusal lowest
-  formed-cases f g =
-      bool-cases (badDigits t k) (λ a. f (rw a)) (λ a.
-      bool-cases (noLetter t k) (λ b. f (rw (a, b))) (λ b.
-      bool-cases (noW t k) (λ c. f (rw (a, b, c))) (λ c.
-      bool-cases (bytesLeft t k) (λ d. f (rw (a, b, c, d))) (λ d. g (formed-by t k a b c d)))))
-
-  read-by : (b : Bool) → tokenRefusal n t k ≡ pick b 5 0 → readBehind n t k ≡ pick b (Not 5) (Is (codeOf (tokenMove t k)))
-  unfolding readBehind
-  read-by true e = rw e
-  read-by false e = rw e
-
-  -- then the width alone decides
+  -- the width alone decides
   module _ (f : Formed t k) where
     width-test : badTokenWidth n t k ≡ badWidthIn 2 (n - 1) (tokenMove t k)
     unfolding badTokenWidth
@@ -138,13 +106,9 @@ module _ (n : ℕ) (t : List ℕ) (k : ℕ) where
         (λ w. rw (wide-move t k w, w, wide-of (letterAt t k) (wide-letter t k w .0)))
         (λ w. rw (plain-move t k w, w, plain-kind (letterAt t k) (f .letter) .plain))
 
-    formed-refusal : tokenRefusal n t k ≡ pick (badWidthIn 2 (n - 1) (tokenMove t k)) 5 0
-    unfolding tokenRefusal lowest bytesLeft
-    formed-refusal =
-        rw (parts-digits t k (f .first) (f .few), parts-letter t k (f .letter) (f .plain), parts-w t k (f .plain), eq-eqb _ _ (f .end), width-test)
-
-    formed-reads : readBehind n t k ≡ pick (badWidthIn 2 (n - 1) (tokenMove t k)) (Not 5) (Is (codeOf (tokenMove t k)))
-    formed-reads = read-by (badWidthIn 2 (n - 1) (tokenMove t k)) formed-refusal
+    formed-reads : readBehind n t k ≡ pick (badWidthIn 2 (n - 1) (tokenMove t k)) (Not 5 0) (Is (codeOf (tokenMove t k)))
+    unfolding readBehind unlessFault
+    formed-reads = rw (parts-digits t k (f .first) (f .few), parts-letter t k (f .letter) (f .plain), parts-w t k (f .plain), end-left t k (f .end), width-test)
 
 plain-reads : (p : ℕ) {s : List ℕ} {u : ℕ} → p < 9 → Suffix s u → ReadAs (getD kindLetters p 0 ∷ s) 0 (move (plainKind p) 0 u)
 unfolding digitsOf isWideToken
@@ -193,12 +157,12 @@ wide-reads p {ds} {s} {w} {u} h d x =
     }
 
 -- of the grammar, and its width taken or not
-read-as : {t : List ℕ} {k : ℕ} {m : Move} (n : ℕ) → ReadAs t k m → readToken n t ≡ pick (badWidthIn 2 (n - 1) m) (Not 5) (Is (codeOf m))
+read-as : {t : List ℕ} {k : ℕ} {m : Move} (n : ℕ) → ReadAs t k m → readToken n t ≡ pick (badWidthIn 2 (n - 1) m) (Not 5 0) (Is (codeOf m))
 unfolding readToken
 read-as {t} {k} {m} n r =
-    ap (readBehind n t) (r .count) ∙ formed-reads n t k (r .form) ∙ ap (λ (x : Move). pick (badWidthIn 2 (n - 1) x) (Not 5) (Is (codeOf x))) (r .is)
+    ap (readBehind n t) (r .count) ∙ formed-reads n t k (r .form) ∙ ap (λ (x : Move). pick (badWidthIn 2 (n - 1) x) (Not 5 0) (Is (codeOf x))) (r .is)
 
-shaped-reads : {t : List ℕ} {m : Move} (n : ℕ) → Shaped t m → readToken n t ≡ pick (badWidthIn 2 (n - 1) m) (Not 5) (Is (codeOf m))
+pub shaped-reads : {t : List ℕ} {m : Move} (n : ℕ) → Shaped t m → readToken n t ≡ pick (badWidthIn 2 (n - 1) m) (Not 5 0) (Is (codeOf m))
 shaped-reads n (plainToken p h x) = read-as n (plain-reads p h x)
 shaped-reads n (wideToken p h d x) = read-as n (wide-reads p h d x)
 
@@ -206,18 +170,18 @@ shaped-reads n (wideToken p h d x) = read-as n (wide-reads p h d x)
 pub width-taken : (n : ℕ) (m : Move) → badWidthIn 2 (n - 1) m ≡ false → WidthTaken n m
 width-taken n m e w = let i = inside 2 (n - 1) (m .width) (rw w at e) in (omega arith, omega arith)
 
-taken-width : (n : ℕ) (m : Move) → WidthTaken n m → badWidthIn 2 (n - 1) m ≡ false
+pub taken-width : (n : ℕ) (m : Move) → WidthTaken n m → badWidthIn 2 (n - 1) m ≡ false
 taken-width n m h =
     bool-cases (isWide (m .kind))
     (λ w. let i = h w in rw w (inside-not 2 (n - 1) (m .width) (omega arith) (omega arith)))
     (λ w. rw w)
 
-width-refused : (n : ℕ) (m : Move) → (WidthTaken n m → ⊥) → badWidthIn 2 (n - 1) m ≡ true
+pub width-refused : (n : ℕ) (m : Move) → (WidthTaken n m → ⊥) → badWidthIn 2 (n - 1) m ≡ true
 width-refused n m h = bool-cases (badWidthIn 2 (n - 1) m) (λ e. e) (λ e. absurd (h (width-taken n m e)))
 
 pub accepts : Accepts
 accepts n t c s =
-    shaped-reads n (s .shape) ∙ ap (λ (b : Bool). pick b (Not 5) (Is (codeOf (moveOf c)))) (taken-width n (moveOf c) (s .width)) ∙ ap Is (code-move c)
+    shaped-reads n (s .shape) ∙ ap (λ (b : Bool). pick b (Not 5 0) (Is (codeOf (moveOf c)))) (taken-width n (moveOf c) (s .width)) ∙ ap Is (code-move c)
 
 -- ---- a token that is read is of the grammar
 
@@ -352,50 +316,11 @@ shaped-move : {t : List ℕ} {m : Move} → Shaped t m → moveOf (codeOf m) ≡
 shaped-move (plainToken p h x) = move-code _ (omega (arith, plain-kind p h .most)) (suffix-turn x)
 shaped-move (wideToken p h d x) = move-code _ (omega arith) (suffix-turn x)
 
--- every text is a token of the grammar for some width, or is refused by 4
-read-cases {ℓ} : {A : Type ℓ} (n : ℕ) (t : List ℕ) → (readToken n t ≡ Not 4 → A) → ((m : Move) → Shaped t m → A) → A
-unfolding readToken readBehind
-read-cases n t f g =
-    formed-cases n t (digitsOf t) (λ e. f (rw e)) (λ h. g (tokenMove t (digitsOf t)) (formed-shaped t h))
-
--- and no token of the grammar is
-shaped-not-4 : {t : List ℕ} {m : Move} (n : ℕ) → Shaped t m → readToken n t ≡ Not 4 → ⊥
-shaped-not-4 {t} {m} n s e = go (badWidthIn 2 (n - 1) m) (sym (shaped-reads n s) ∙ e)
-  where
-    go : (b : Bool) → pick b (Not 5) (Is (codeOf m)) ≡ Not 4 → ⊥
-    go true q = let z : _≡_ {A = ℕ} 5 4 = cc in omega arith
-    go false q = let z : _≡_ {A = ℕ} 0 1 = cc in omega arith
-
 pub accepts-no-other : AcceptsNoOther
+unfolding readToken
 accepts-no-other n t c e =
-    read-cases n t
-    (λ f. let q : Not 4 ≡ Is c = sym f ∙ e in let z : _≡_ {A = ℕ} 0 1 = cc in absurd (omega arith))
-    (λ m s. bool-cases (badWidthIn 2 (n - 1) m)
-    (λ b. let q : Not 5 ≡ Is c = rw b at (sym (shaped-reads n s) ∙ e) in let z : _≡_ {A = ℕ} 0 1 = cc in absurd (omega arith))
-    (λ b.
-    let q : Is (codeOf m) ≡ Is c = rw b at (sym (shaped-reads n s) ∙ e) in
-    let is : codeOf m ≡ c = cc in
-    subst (Spelled n t) (sym (shaped-move s) ∙ ap moveOf is) (record { shape = s; width = width-taken n m b })))
-
--- ---- and why another is refused
-
-pub refuses-width : RefusesWidth
-refuses-width n t = (there, back)
-  where
-    there : readToken n t ≡ Not 5 → (m : Move) × Shaped t m × (WidthTaken n m → ⊥)
-    there e =
-        read-cases n t
-        (λ f. let q : Not 4 ≡ Not 5 = sym f ∙ e in let z : _≡_ {A = ℕ} 4 5 = cc in absurd (omega arith))
-        (λ m s. (
-          m,
-          s,
-          λ w.
-              let q : Is (codeOf m) ≡ Not 5 = rw (taken-width n m w) at (sym (shaped-reads n s) ∙ e) in
-              let z : _≡_ {A = ℕ} 0 1 = cc in omega arith,
-        ))
-
-    back : ((m : Move) × Shaped t m × (WidthTaken n m → ⊥)) → readToken n t ≡ Not 5
-    back s = shaped-reads n (s .1) ∙ ap (λ (b : Bool). pick b (Not 5) (Is (codeOf (s .0)))) (width-refused n (s .0) (s .2))
-
-pub refuses-form : RefusesForm
-refuses-form n t = (λ e m s. shaped-not-4 n s e, λ h. read-cases n t (λ f. f) (λ m s. absurd (h m s)))
+    let k : ℕ = digitsOf t in
+    let q = token-code n t k e in
+    let s = formed-shaped t (q .0 .form) in
+    let w = width-taken n (tokenMove t k) (sym (width-test n t k (q .0 .form)) ∙ parts-width t k n (q .0 .width)) in
+    subst (Spelled n t) (sym (shaped-move s) ∙ ap moveOf (sym (q .1))) (record { shape = s; width = w })

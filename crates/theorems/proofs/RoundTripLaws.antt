@@ -17,13 +17,13 @@ use Rattle.generic_cube.specs.declared.Answer.the-variants.{Value, Refused}
 use Rattle.generic_cube.specs.Answers.{answer}
 use Rattle.generic_cube.specs.Code.{rowsIn, refusalIn}
 use Rattle.generic_cube.proofs.CodeLaws.{sized-bounds, Good, AllGood, taken-good}
-use Rattle.scramble_parser.specs.declared.Token.{Token}
-use Rattle.scramble_parser.specs.declared.Token.the-variants.{Is}
-use Rattle.scramble_parser.specs.Words.{isSpace, endsWord, wordBytes, words}
+use Rattle.tokens.specs.declared.Token.{Token}
+use Rattle.tokens.specs.declared.Token.the-variants.{Is}
+use Rattle.tokens.specs.Words.{isSpace, endsWord, wordBytes, words}
 use Rattle.scramble_parser.specs.Parse.{codes, ahead, reading, parseAnswer, parseOut}
-use Rattle.scramble_parser.specs.Write.{textOf, restText, listText, writeRefusal}
-use Rattle.scramble_parser.proofs.WordLaws.{words-word}
-use Rattle.scramble_parser.proofs.WriteLaws.{write-fits}
+use Rattle.scramble_writer.specs.Write.{textOf, restText, listText, writeRefusal}
+use Rattle.tokens.proofs.WordLaws.{words-word}
+use Rattle.scramble_writer.proofs.WriteLaws.{write-fits}
 use Rattle.theorems.specs.Notation.{RoundTrips, ReadsBack, ExactRoom}
 use Rattle.theorems.proofs.GrammarLaws.{accepts}
 use Rattle.theorems.proofs.WriterLaws.{text-spelled, shaped-some, shaped-word}

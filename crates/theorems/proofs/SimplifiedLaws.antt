@@ -4,8 +4,8 @@ use mathlib.Core.Path.{_≡_, refl, sym, _∙_}
 use mathlib.Core.List.{List, [], _∷_}
 use Rattle.ground.proofs.ChoiceLaws.{bool-cases}
 use Rattle.generic_cube.specs.Code.{joins}
-use Rattle.scramble_parser.specs.Lists.{join, push, simplify, Turned, here, there, Steps, done, then}
-use Rattle.scramble_parser.proofs.SimplifyLaws.{simplify-reduced, simplify-fixed, step-simplify, step-turned}
+use Rattle.move_lists.specs.Lists.{join, push, simplify, Turned, here, there, Steps, done, then}
+use Rattle.move_lists.proofs.SimplifyLaws.{simplify-reduced, simplify-fixed, step-simplify, step-turned}
 use Rattle.theorems.specs.Notation.{NoneJoin, SecondPass, ByJoinings, Unique}
 
 pub none-join : NoneJoin

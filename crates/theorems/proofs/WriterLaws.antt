@@ -1,7 +1,7 @@
 -- The writer's text of a code is a token of the grammar, and a token is the writer's text or that with a `2` before it.
 use Prim.Native.Nat.{ℕ, _+_, _-_, _*_, _/_, _%_, _≤_, _<_}
 use mathlib.Core.Path.{_≡_, refl, sym, ap, subst, _∙_}
-use mathlib.Core.Bool.{true, false, true≢false, not}
+use mathlib.Core.Bool.{false, true≢false, not}
 use mathlib.Core.Logic.{_⊎_, inl, inr, ⊎-elim}
 use mathlib.Core.List.{List, [], _∷_, _++_}
 use native.Mathlib.Omega.{arith}
@@ -14,11 +14,11 @@ use Rattle.generic_cube.specs.declared.Move.{Move}
 use Rattle.generic_cube.specs.Code.{move, moveOf, isWide, badCode, readCode}
 use Rattle.generic_cube.proofs.AllMovesLaws.{holds-at}
 use Rattle.generic_cube.proofs.CodeLaws.{move-eq, turn-most, code-bounds, code-width, inside, Good}
-use Rattle.scramble_parser.specs.Token.{kindLetters, plainKind}
-use Rattle.scramble_parser.specs.Words.{isSpace, isSign, endsWord}
-use Rattle.scramble_parser.specs.Write.{kindByte, markText, widthText, tokenText, textOf}
-use Rattle.scramble_parser.proofs.TokenLaws.{plain-kind, wide-of, token-good}
-use Rattle.scramble_parser.proofs.WriteLaws.{width-none, width-one, width-two, width-three}
+use Rattle.tokens.specs.Token.{kindLetters, plainKind}
+use Rattle.tokens.specs.Words.{isSpace, isSign, endsWord}
+use Rattle.scramble_writer.specs.Write.{kindByte, markText, widthText, tokenText, textOf}
+use Rattle.tokens.proofs.TokenLaws.{plain-kind, wide-of, token-good}
+use Rattle.scramble_writer.proofs.WriteLaws.{width-none, width-one, width-two, width-three}
 use Rattle.theorems.specs.Notation.{Suffix, quarterMark, halfMark, counterMark, Width, noDigits, oneDigit, twoDigits, threeDigits, Shaped, plainToken, wideToken, Spelled, TwoTexts}
 use Rattle.theorems.proofs.GrammarLaws.{width-taken, accepts-no-other}
 

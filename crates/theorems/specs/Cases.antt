@@ -9,7 +9,7 @@ use Rattle.generic_cube.specs.StickerIndex.{stickerRefusal, stickerIndex}
 use Rattle.geometric_moves.specs.Turn.{run}
 use Rattle.scramble_parser.specs.declared.Parsed.the-variants.{Moves, RefusedAt}
 use Rattle.scramble_parser.specs.Parse.{parseAnswer}
-use Rattle.scramble_parser.specs.Lists.{simplify}
+use Rattle.move_lists.specs.Lists.{simplify}
 
 pub record Cases : Type 0 where
   -- codes R2 14, Uw 153, 10Dw 685
@@ -26,8 +26,10 @@ pub record Cases : Type 0 where
   pub r-u-u′-r : simplify (13 ∷ 1 ∷ 3 ∷ 13 ∷ []) ≡ 14 ∷ []
   pub u-d-u′ : simplify (1 ∷ 21 ∷ 3 ∷ []) ≡ 1 ∷ 21 ∷ 3 ∷ []
   pub uw-2-3 : simplify (153 ∷ 217 ∷ []) ≡ 153 ∷ 217 ∷ []
-  -- n=4: `4Uw` is 5, `02Uw` is 4; n=2: `Uw` is 5; empty text gives an empty list; the room for a move changes none of these
+  -- n=4: `4Uw` is 5, `02Uw` is 13; n=2: `Uw` is 5; empty text gives an empty list; the room for a move changes none of these
   pub width-4 : parseAnswer 4 (52 ∷ 85 ∷ 119 ∷ []) 1 ≡ RefusedAt 5 0
-  pub zero-first : parseAnswer 4 (48 ∷ 50 ∷ 85 ∷ 119 ∷ []) 1 ≡ RefusedAt 4 0
+  pub zero-first : parseAnswer 4 (48 ∷ 50 ∷ 85 ∷ 119 ∷ []) 1 ≡ RefusedAt 13 0
   pub uw-on-2 : parseAnswer 2 (85 ∷ 119 ∷ []) 1 ≡ RefusedAt 5 0
   pub empty : parseAnswer 3 [] 0 ≡ Moves 0
+  -- `R 2R` is 14 at 4
+  pub no-w : parseAnswer 3 (82 ∷ 32 ∷ 50 ∷ 82 ∷ []) 2 ≡ RefusedAt 14 4

@@ -14,12 +14,12 @@ use Rattle.generic_cube.specs.Sizes.{sized}
 use Rattle.generic_cube.specs.Code.{move, moveOf, isWide, refusalIn}
 use Rattle.scramble_parser.specs.declared.Parsed.{Parsed}
 use Rattle.scramble_parser.specs.declared.Parsed.the-variants.{Moves}
-use Rattle.scramble_parser.specs.declared.Token.the-variants.{Is, Not}
-use Rattle.scramble_parser.specs.Token.{kindLetters, plainKind, readToken}
-use Rattle.scramble_parser.specs.Words.{tokensOf}
-use Rattle.scramble_parser.specs.Parse.{codes, reading, ParseResult}
-use Rattle.scramble_parser.specs.Write.{textOf, listText, writeRefusal, WriteResult}
-use Rattle.scramble_parser.specs.Lists.{simplify, Reduced, Turned, Steps, inverse}
+use Rattle.tokens.specs.declared.Token.the-variants.{Is, Not}
+use Rattle.tokens.specs.Token.{kindLetters, plainKind, readToken}
+use Rattle.tokens.specs.Words.{Run, tokensOf}
+use Rattle.scramble_parser.specs.Parse.{codes, bad, reading, ParseResult}
+use Rattle.scramble_writer.specs.Write.{textOf, listText, writeRefusal, WriteResult}
+use Rattle.move_lists.specs.Lists.{simplify, Reduced, Turned, Steps, inverse}
 
 -- ---- the grammar of a token
 
@@ -59,28 +59,7 @@ Accepts = (n : ℕ) (t : List ℕ) (c : ℕ) → Spelled n t (moveOf c) → read
 abbrev pub AcceptsNoOther : Type 0
 AcceptsNoOther = (n : ℕ) (t : List ℕ) (c : ℕ) → readToken n t ≡ Is c → Spelled n t (moveOf c)
 
--- 5 exactly if it is a token of the grammar but for its width
-abbrev pub RefusesWidth : Type 0
-RefusesWidth = (n : ℕ) (t : List ℕ) → (readToken n t ≡ Not 5) ↔ ((m : Move) × Shaped t m × (WidthTaken n m → ⊥))
-
--- 4 exactly if it is a token of the grammar for no width at all
-abbrev pub RefusesForm : Type 0
-RefusesForm = (n : ℕ) (t : List ℕ) → (readToken n t ≡ Not 4) ↔ ((m : Move) → Shaped t m → ⊥)
-
 -- ---- where a text stops being a token, read from the left
-
-pub data Fault : Type 0 where
-  inDigits : Fault
-  inLetter : Fault
-  inW : Fault
-  behind : Fault
-
--- the number of each
-abbrev pub faultNo : Fault → ℕ
-faultNo inDigits = 4
-faultNo inLetter = 4
-faultNo inW = 4
-faultNo behind = 4
 
 -- the first byte is no digit; it is none of the first `count` letters. `getD rest 0 0` is 0 where nothing is left
 abbrev pub NoDigit : List ℕ → Type 0
@@ -89,28 +68,56 @@ NoDigit rest = (a : ℕ) → a < 10 → getD rest 0 0 ≡ 48 + a → ⊥
 abbrev pub NoneOf : ℕ → List ℕ → Type 0
 NoneOf count rest = (p : ℕ) → p < count → getD rest 0 0 ≡ getD kindLetters p 0 → ⊥
 
-abbrev pub NoSuffix : List ℕ → Type 0
-NoSuffix rest = (u : ℕ) → Suffix rest u → ⊥
+-- a byte is left after the suffix, at place i: one where no suffix stands, or one after it
+pub data ByteLeft : ℕ → List ℕ → Type 0 where
+  noMark : (b : ℕ) (rest : List ℕ) → ((u : ℕ) → Suffix (b ∷ []) u → ⊥) → ByteLeft 0 (b ∷ rest)
+  oneMark : (m b : ℕ) (rest : List ℕ) (u : ℕ) → Suffix (m ∷ []) u → ByteLeft 1 (m ∷ b ∷ rest)
 
--- digits that start with 0 or number more than three; then a letter that isn't one of the six (or x, y, z where no digits stood), or none;
--- with digits, no `w` after the letter; any byte left after the suffix
-pub data Faulty : Fault → List ℕ → Type 0 where
-  zeroFirst : (rest : List ℕ) → Faulty inDigits (48 ∷ rest)
+-- the number and the place of a fault. 13: digits that start with 0 or number more than three; 12: then a letter that isn't one of the six (or
+-- x, y, z where no digits stood), or none; 14: with digits, no `w` after the letter; 14: any byte left after the suffix
+pub data Faulty : ℕ → ℕ → List ℕ → Type 0 where
+  zeroFirst : (rest : List ℕ) → Faulty 13 0 (48 ∷ rest)
   fourDigits : (a b c d : ℕ) (rest : List ℕ) → a < 10 → b < 10 → c < 10 → d < 10
-      → Faulty inDigits ((48 + a) ∷ (48 + b) ∷ (48 + c) ∷ (48 + d) ∷ rest)
-  noLetterHere : {ds : List ℕ} {w : ℕ} (rest : List ℕ) → Width ds w → NoDigit rest → NoneOf (pick (eqb (length ds) 0) 9 6) rest → Faulty inLetter (ds ++ rest)
+      → Faulty 13 0 ((48 + a) ∷ (48 + b) ∷ (48 + c) ∷ (48 + d) ∷ rest)
+  noLetterHere : {ds : List ℕ} {w : ℕ} (rest : List ℕ) → Width ds w → NoDigit rest → NoneOf (pick (eqb (length ds) 0) 9 6) rest
+      → Faulty 12 (length ds) (ds ++ rest)
   noWHere : (p : ℕ) {ds : List ℕ} {w : ℕ} (rest : List ℕ) → p < 6 → Width ds w → 0 < length ds → (getD rest 0 0 ≡ 119 → ⊥)
-      → Faulty inW (ds ++ (getD kindLetters p 0 ∷ rest))
-  plainLeft : (p : ℕ) (rest : List ℕ) → p < 9 → (p < 6 → getD rest 0 0 ≡ 119 → ⊥) → NoSuffix rest → Faulty behind (getD kindLetters p 0 ∷ rest)
-  wideLeft : (p : ℕ) {ds : List ℕ} {w : ℕ} (rest : List ℕ) → p < 6 → Width ds w → NoSuffix rest → Faulty behind (ds ++ (getD kindLetters p 0 ∷ 119 ∷ rest))
+      → Faulty 14 (length ds + 1) (ds ++ (getD kindLetters p 0 ∷ rest))
+  plainLeft : (p : ℕ) {i : ℕ} (rest : List ℕ) → p < 9 → (p < 6 → getD rest 0 0 ≡ 119 → ⊥) → ByteLeft i rest
+      → Faulty 14 (1 + i) (getD kindLetters p 0 ∷ rest)
+  wideLeft : (p : ℕ) {ds : List ℕ} {w i : ℕ} (rest : List ℕ) → p < 6 → Width ds w → ByteLeft i rest
+      → Faulty 14 (length ds + 2 + i) (ds ++ (getD kindLetters p 0 ∷ 119 ∷ rest))
 
--- each fault is answered by its number
-abbrev pub FaultRefused : Type 0
-FaultRefused = (n : ℕ) (t : List ℕ) (f : Fault) → Faulty f t → readToken n t ≡ Not (faultNo f)
+abbrev pub HasFault : List ℕ → Type 0
+HasFault t = (k : ℕ) × (p : ℕ) × Faulty k p t
 
--- and what is no token of the grammar for any width has a fault
+-- a text has a fault exactly if it is no token of the grammar for any width
 abbrev pub FaultFound : Type 0
-FaultFound = (t : List ℕ) → ((m : Move) → Shaped t m → ⊥) → (f : Fault) × Faulty f t
+FaultFound = (t : List ℕ) → ((m : Move) → Shaped t m → ⊥) ↔ HasFault t
+
+-- why a size refuses a token: for its fault, at the fault's place; 5 for a width that is not taken, at the token's start
+pub data Refusing : ℕ → ℕ → ℕ → List ℕ → Type 0 where
+  forFault : {n k p : ℕ} {t : List ℕ} → Faulty k p t → Refusing n k p t
+  forWidth : {n : ℕ} {t : List ℕ} (m : Move) → Shaped t m → (WidthTaken n m → ⊥) → Refusing n 5 0 t
+
+-- a token is refused with a number at a place exactly if this is why
+abbrev pub Refuses : Type 0
+Refuses = (n : ℕ) (t : List ℕ) (k p : ℕ) → (readToken n t ≡ Not k p) ↔ Refusing n k p t
+
+-- the first bad token among the words of a text: those before it are read, and the place is counted from the text's start
+pub record FirstBad (n : ℕ) (ws : List Run) (k at : ℕ) : Type 0 where
+  pub before : List Run
+  pub word : Run
+  pub after : List Run
+  pub place : ℕ
+  pub words-are : ws ≡ before ++ (word ∷ after)
+  pub fine : (cs : List ℕ) × (reading n before ≡ codes cs)
+  pub refused : Refusing n k place (word .bytes)
+  pub counted : at ≡ word .start + place
+
+-- a text is refused with a number at a place exactly if that is its first bad token's
+abbrev pub FirstRefused : Type 0
+FirstRefused = (n : ℕ) (ws : List Run) (k at : ℕ) → (reading n ws ≡ bad k at) ↔ FirstBad n ws k at
 
 -- ---- the writer's tokens
 

@@ -12,7 +12,7 @@ use Rattle.generic_cube.specs.declared.Answer.{Answer}
 use Rattle.generic_cube.specs.declared.Answer.the-variants.{Value, Refused}
 use Rattle.generic_cube.specs.Sizes.{stickers, letters}
 use Rattle.generic_cube.specs.Code.{listRefusal}
-use Rattle.scramble_parser.specs.Lists.{inverseOf}
+use Rattle.move_lists.specs.Lists.{inverseOf}
 use Rattle.geometric_moves.specs.Turn as Turn
 use Rattle.table.specs.Table.{bytes, entryCount, wellFormed}
 use Rattle.search_theory.specs.Search.{Reply, none, found, runTask, Solves, Admissible, Best}

@@ -18,7 +18,9 @@ fn ours_reads(n: usize, text: &str) -> Result<Vec<u16>, Refusal> {
 /// A text, the crate's reading (none: it panics), a size, and the reading here.
 fn notation() -> usize {
     const W: fn(u16, u16, u16) -> u16 = cubesim_proved::code;
-    let not = |at| Err(Refusal::Token(at));
+    let digits = |at| Err(Refusal::Digits(at));
+    let letter = |at| Err(Refusal::Letter(at));
+    let ending = |at| Err(Refusal::Ending(at));
     let wide = |at| Err(Refusal::Width(Some(at)));
     let lines: Vec<(&str, Option<Vec<u16>>, usize, Result<Vec<u16>, Refusal>)> = vec![
         // the first digit alone is the width, and any 2 makes a half turn
@@ -33,27 +35,27 @@ fn notation() -> usize {
         ("Uw", Some(vec![W(2, 6, 1)]), 2, wide(0)),
         ("4Uw", Some(vec![W(4, 6, 1)]), 4, wide(0)),
         ("1Uw", Some(vec![W(1, 6, 1)]), 4, wide(0)),
-        ("0Uw", Some(vec![W(0, 6, 1)]), 4, not(0)),
+        ("0Uw", Some(vec![W(0, 6, 1)]), 4, digits(0)),
         // no tokens of the grammar, accepted there
-        ("U2'", Some(vec![2]), 3, not(0)),
-        ("U'2", Some(vec![2]), 3, not(0)),
-        ("Uw2'", Some(vec![W(2, 6, 2)]), 4, not(0)),
-        ("R3", Some(vec![13]), 3, not(0)),
-        ("Uxyz", Some(vec![1]), 3, not(0)),
-        ("U,R", Some(vec![1]), 3, not(0)),
-        ("R//", Some(vec![13]), 3, not(0)),
-        ("xw", Some(vec![49]), 4, not(0)),
-        ("wU", Some(vec![W(2, 6, 1)]), 4, not(0)),
-        ("RwU", Some(vec![W(2, 6, 1)]), 4, not(0)),
-        ("-Uw", Some(vec![W(2, 6, 1)]), 4, not(0)),
-        ("+3Uw", Some(vec![W(2, 6, 1)]), 4, not(0)),
-        ("R\u{2019}", Some(vec![13]), 3, not(0)),
+        ("U2'", Some(vec![2]), 3, ending(2)),
+        ("U'2", Some(vec![2]), 3, ending(2)),
+        ("Uw2'", Some(vec![W(2, 6, 2)]), 4, ending(3)),
+        ("R3", Some(vec![13]), 3, ending(1)),
+        ("Uxyz", Some(vec![1]), 3, ending(1)),
+        ("U,R", Some(vec![1]), 3, ending(1)),
+        ("R//", Some(vec![13]), 3, ending(1)),
+        ("xw", Some(vec![49]), 4, ending(1)),
+        ("wU", Some(vec![W(2, 6, 1)]), 4, letter(0)),
+        ("RwU", Some(vec![W(2, 6, 1)]), 4, ending(2)),
+        ("-Uw", Some(vec![W(2, 6, 1)]), 4, letter(0)),
+        ("+3Uw", Some(vec![W(2, 6, 1)]), 4, letter(0)),
+        ("R\u{2019}", Some(vec![13]), 3, ending(1)),
         // a panic there
-        ("2R", None, 3, not(0)),
-        ("Q", None, 3, not(0)),
-        ("\u{2019}", None, 3, not(0)),
+        ("2R", None, 3, ending(2)),
+        ("Q", None, 3, letter(0)),
+        ("\u{2019}", None, 3, letter(0)),
         // other spaces of Unicode part tokens there
-        ("U\u{a0}R", Some(vec![1, 13]), 3, not(0)),
+        ("U\u{a0}R", Some(vec![1, 13]), 3, ending(1)),
     ];
     for (text, crates, n, ours) in &lines {
         assert_eq!(&crate_reads(text), crates, "the crate on {text:?}");

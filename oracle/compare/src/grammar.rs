@@ -1,35 +1,54 @@
-//! A second reading of the grammar in docs/RULES.md, and the domain on which the crate's reader agrees with it.
+//! A second reading of the grammar in docs/RULES.md, and the domain on which the crate's reader agrees with it. All tokens are written out once;
+//! a text is looked up among them, and what can still become one of them says how far it is right.
+use std::collections::{HashMap, HashSet};
+use std::sync::OnceLock;
 
-/// A token read by the rules' sentences: its code, or the number of its refusal.
-fn token(n: usize, t: &[u8]) -> Result<u16, u8> {
-    let digits = t.iter().take_while(|b| b.is_ascii_digit()).count();
-    let rest = &t[digits..];
-    let (kind, after) = match rest.first().and_then(|b| b"ULFRBDxyz".iter().position(|k| k == b)) {
-        Some(k) if k < 6 => (k, &rest[1..]),
-        Some(k) if digits == 0 => (k, &rest[1..]),
-        _ => return Err(4),
-    };
-    let wide = kind < 6 && after.first() == Some(&b'w');
-    let turn = match if wide { &after[1..] } else { after } {
-        b"" => 1,
-        b"2" => 2,
-        b"'" => 3,
-        _ => return Err(4),
-    };
-    if !wide {
-        return if digits == 0 { Ok((if kind < 6 { kind } else { kind + 6 }) as u16 * 4 + turn) } else { Err(4) };
-    }
-    if digits > 3 || t[0] == b'0' {
-        return Err(4);
-    }
-    let width = if digits == 0 { 2 } else { std::str::from_utf8(&t[..digits]).unwrap().parse().unwrap() };
-    if width <= 1 || width >= n {
-        return Err(5);
-    }
-    Ok(width as u16 * 64 + (kind as u16 + 6) * 4 + turn)
+/// Every token with its code, whatever the size, and all that a token begins with.
+struct Tokens {
+    codes: HashMap<Vec<u8>, u16>,
+    fronts: HashSet<Vec<u8>>,
 }
 
-/// A text's codes, or the first bad token: the number of its refusal and its place.
+fn tokens() -> &'static Tokens {
+    static ALL: OnceLock<Tokens> = OnceLock::new();
+    ALL.get_or_init(|| {
+        let mut all = Tokens { codes: HashMap::new(), fronts: HashSet::new() };
+        for (turn, suffix) in [(1, ""), (2, "2"), (3, "'")] {
+            for (place, letter) in "ULFRBDxyz".chars().enumerate() {
+                let place = place as u16;
+                all.put(format!("{letter}{suffix}"), if place < 6 { place } else { place + 6 } * 4 + turn);
+                if place < 6 {
+                    all.put(format!("{letter}w{suffix}"), 2 * 64 + (place + 6) * 4 + turn);
+                    (1..1000).for_each(|width| all.put(format!("{width}{letter}w{suffix}"), width * 64 + (place + 6) * 4 + turn));
+                }
+            }
+        }
+        all
+    })
+}
+
+impl Tokens {
+    fn put(&mut self, token: String, code: u16) {
+        (0..=token.len()).for_each(|end| drop(self.fronts.insert(token.as_bytes()[..end].to_vec())));
+        self.codes.insert(token.into_bytes(), code);
+    }
+}
+
+/// A token's code, or the number of its refusal and its place in the token.
+fn token(n: usize, t: &[u8]) -> Result<u16, (u8, usize)> {
+    if let Some(code) = tokens().codes.get(t) {
+        let width = (code / 64) as usize;
+        return if width == 0 || (1 < width && width < n) { Ok(*code) } else { Err((5, 0)) };
+    }
+    let digits = t.iter().take_while(|b| b.is_ascii_digit()).count();
+    if digits > 3 || t[0] == b'0' {
+        return Err((13, 0));
+    }
+    let right = (0..=t.len()).rev().find(|end| tokens().fronts.contains(&t[..*end])).unwrap();
+    Err((if right == digits { 12 } else { 14 }, right))
+}
+
+/// A text's codes, or the first bad token's refusal: its number and its place.
 pub fn text(n: usize, s: &[u8]) -> Result<Vec<u16>, (u8, usize)> {
     let mut out = Vec::new();
     let mut i = 0;
@@ -40,7 +59,7 @@ pub fn text(n: usize, s: &[u8]) -> Result<Vec<u16>, (u8, usize)> {
             continue;
         }
         let end = (i..s.len()).find(|j| space(s[*j])).unwrap_or(s.len());
-        out.push(token(n, &s[i..end]).map_err(|number| (number, i))?);
+        out.push(token(n, &s[i..end]).map_err(|(number, at)| (number, i + at))?);
         i = end;
     }
     Ok(out)

@@ -9,7 +9,12 @@ use cubesim_proved::Refusal;
 
 /// The second reading, in the library's words.
 fn text(n: usize, s: &[u8]) -> Result<Vec<u16>, Refusal> {
-    grammar::text(n, s).map_err(|(number, at)| if number == 4 { Refusal::Token(at) } else { Refusal::Width(Some(at)) })
+    grammar::text(n, s).map_err(|(number, at)| match number {
+        12 => Refusal::Letter(at),
+        13 => Refusal::Digits(at),
+        14 => Refusal::Ending(at),
+        _ => Refusal::Width(Some(at)),
+    })
 }
 
 fn check(tally: &mut Tally, n: usize, s: &[u8]) {
@@ -22,19 +27,24 @@ fn check(tally: &mut Tally, n: usize, s: &[u8]) {
     }
 }
 
-/// Every token of up to four bytes over an alphabet of what tokens are made of.
+/// Every token of up to four bytes over an alphabet of what tokens are made of, and of up to six over a smaller one: a fault can stand behind three
+/// digits, a letter, `w` and a suffix.
 pub fn tokens(tally: &mut Tally) {
-    let alphabet = b"URFLDBxyzw23'190Q";
+    words(tally, b"URFLDBxyzw23'190Q", 0..=4, &[2, 10, 104]);
+    words(tally, b"Uxw2'01", 5..=6, &[13]);
+}
+
+fn words(tally: &mut Tally, alphabet: &[u8], lengths: std::ops::RangeInclusive<u32>, sizes: &[usize]) {
     let base = alphabet.len();
-    for length in 0..=4u32 {
+    for length in lengths {
         for mut number in 0..base.pow(length) {
             let mut token = Vec::new();
             for _ in 0..length {
                 token.push(alphabet[number % base]);
                 number /= base;
             }
-            for n in [2, 10, 104] {
-                check(tally, n, &token);
+            for n in sizes {
+                check(tally, *n, &token);
             }
         }
     }

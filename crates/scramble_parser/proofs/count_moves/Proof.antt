@@ -4,9 +4,9 @@ use mathlib.Core.List.{[]}
 use Prim.Native.Nat.{_-_}
 use mathlib.Core.Path.{sym, _∙_}
 use lib.ListN.{length}
-use Rattle.scramble_parser.specs.Inner.{Found}
-use Rattle.scramble_parser.proofs.ParseLaws.{Counted, count-none, count-end, count-more, count-bad}
-use Rattle.scramble_parser.proofs.WordLaws.{found, none-left}
+use Rattle.tokens.specs.Inner.{Found}
+use Rattle.scramble_parser.proofs.ParseLaws.{Counted, count-none, count-end, count-more, count-bad, bad-within}
+use Rattle.tokens.proofs.WordLaws.{found, none-left}
 use borrow.Author.Needs.{needs}
 use Rattle.scramble_parser.proofs.count_moves.Statement.{statement}
 use Rattle.scramble_parser.proofs.count_moves.Tie as tie
@@ -63,6 +63,11 @@ loop-again c = count-more (c .before .before .before .before .before .before .be
 enum-known-number : tie.Need-enum-known-number Inv-loop μ-loop
 enum-known-number c = search needs
 
+add-at : tie.Need-add-at Inv-loop μ-loop
+add-at c =
+    let w = bad-within (c .before .before .before .before .before .before .before .before .before .loop .inv) (word (c .before .before .before .before .before)) (sym (c .before .number .given .1) ∙ c .before .before .before .read-token .ensures) in
+    omega arith
+
 returns-2 : tie.Need-returns-2 Inv-loop μ-loop
 returns-2 c = count-bad (c .before .before .before .before .before .before .before .before .before .loop .inv) (word (c .before .before .before .before .before)) (sym (c .before .number .given .1) ∙ c .before .before .before .read-token .ensures)
 
@@ -86,4 +91,5 @@ count-moves-spec =
     loop-less
     loop-again
     enum-known-number
+    add-at
     returns-2)

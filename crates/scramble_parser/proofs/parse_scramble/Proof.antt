@@ -3,7 +3,7 @@ use native.Mathlib.Omega.{arith}
 use mathlib.Core.Logic.{⊎-elim}
 use mathlib.Core.Path.{_≡_, sym, _∙_}
 use mathlib.Core.Bool.{true}
-use Rattle.scramble_parser.specs.Words.{tokensOf}
+use Rattle.tokens.specs.Words.{tokensOf}
 use Rattle.scramble_parser.specs.Parse.{reading}
 use Rattle.scramble_parser.specs.declared.Parsed.the-variants.{Moves}
 use Rattle.generic_cube.specs.Sizes.{sized}

@@ -4,13 +4,13 @@ use native.Mathlib.Omega.{arith}
 use mathlib.Core.List.{[]}
 use Prim.Native.Nat.{_<_}
 use mathlib.Core.Path.{_≡_}
-use Rattle.scramble_parser.specs.Token.{readToken}
-use Rattle.scramble_parser.specs.declared.Token.the-variants.{Is}
+use Rattle.tokens.specs.Token.{readToken}
+use Rattle.tokens.specs.declared.Token.the-variants.{Is}
 use mathlib.Core.Path.{sym, _∙_}
 use lib.ListN.{length, take, drop}
-use Rattle.scramble_parser.specs.Inner.{Found}
+use Rattle.tokens.specs.Inner.{Found}
 use Rattle.scramble_parser.proofs.ParseLaws.{Stored, store-none, store-end, store-more, store-bad, store-room}
-use Rattle.scramble_parser.proofs.WordLaws.{found, none-left}
+use Rattle.tokens.proofs.WordLaws.{found, none-left}
 use borrow.Author.Needs.{needs}
 use Rattle.scramble_parser.proofs.write_moves.Statement.{statement}
 use Rattle.scramble_parser.proofs.write_moves.Tie as tie

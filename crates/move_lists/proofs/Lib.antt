@@ -1,0 +1,2 @@
+pub mod SimplifyLaws
+pub mod ListLaws

@@ -1,0 +1,3 @@
+pub mod Token
+pub mod Words
+pub mod Inner
