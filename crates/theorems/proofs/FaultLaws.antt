@@ -20,16 +20,10 @@ use Rattle.tokens.specs.Inner.{Lettered}
 use Rattle.tokens.specs.Words.{Run}
 use Rattle.scramble_parser.specs.Parse.{Reading, codes, bad, ahead, reading}
 use Rattle.tokens.proofs.TokenLaws.{digit-back, wide-letter, digits-parts, parts-digits, letter-parts, parts-letter, w-parts, end-left, Formed, formed-by, stands, letter-stands, DigitsEnd, digits-end, end-within, suffix-wide, suffix-plain, face-letter, out-digits, out-letter, out-w, out-left}
-use Rattle.theorems.specs.Notation.{Suffix, halfMark, counterMark, Width, noDigits, Shaped, NoDigit, NoneOf, ByteLeft, noMark, oneMark, Faulty, zeroFirst, fourDigits, noLetterHere, noWHere, plainLeft, wideLeft, HasFault, FaultFound, Refusing, forFault, forWidth, Refuses, FirstBad, FirstRefused}
-use Rattle.theorems.proofs.GrammarLaws.{digit-is, letter-place, letter-is, marked, width-read, letter-back, is-a-digit, width-back, split-plain, split-wide, formed-shaped, shaped-reads, taken-width, width-refused}
+use Rattle.theorems.specs.Notation.{Suffix, Width, noDigits, Shaped, NoDigit, NoneOf, ByteLeft, noMark, oneMark, Faulty, zeroFirst, fourDigits, noLetterHere, noWHere, plainLeft, wideLeft, HasFault, FaultFound, Refusing, forFault, forWidth, Refuses, FirstBad, FirstRefused}
+use Rattle.theorems.proofs.GrammarLaws.{digit-is, letter-place, letter-is, marked, half-is, counter-is, width-read, letter-back, is-a-digit, width-back, split-plain, split-wide, formed-shaped, shaped-reads, taken-width, width-refused}
 
 -- ---- bytes left after a suffix
-
-half-is : (b : ℕ) → b ≡ 50 → Suffix (b ∷ []) 2
-half-is b e = subst (λ (x : ℕ). Suffix (x ∷ []) 2) (sym e) halfMark
-
-counter-is : (b : ℕ) → b ≡ 39 → Suffix (b ∷ []) 3
-counter-is b e = subst (λ (x : ℕ). Suffix (x ∷ []) 3) (sym e) counterMark
 
 -- they start where the reader's suffix ends
 left-size : {i : ℕ} {rest : List ℕ} → ByteLeft i rest → (markOf (getD rest 0 0) .size ≡ i) × (i < length rest)

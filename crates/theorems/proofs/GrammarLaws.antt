@@ -185,15 +185,21 @@ accepts n t c s =
 
 -- ---- a token that is read is of the grammar
 
+pub half-is : (b : ℕ) → b ≡ 50 → Suffix (b ∷ []) 2
+half-is b e = subst (λ (x : ℕ). Suffix (x ∷ []) 2) (sym e) halfMark
+
+pub counter-is : (b : ℕ) → b ≡ 39 → Suffix (b ∷ []) 3
+counter-is b e = subst (λ (x : ℕ). Suffix (x ∷ []) 3) (sym e) counterMark
+
 -- a suffix with nothing after it
-pub suffix-back : (l : List ℕ) → length l ≡ markOf (getD l 0 0) .size → Suffix l (markOf (getD l 0 0) .turn)
+suffix-back : (l : List ℕ) → length l ≡ markOf (getD l 0 0) .size → Suffix l (markOf (getD l 0 0) .turn)
 unfolding markOf
 suffix-back [] h = quarterMark
 suffix-back (b ∷ []) h =
     bool-cases (eqb b 50)
-    (λ t. rw t (subst (λ (x : ℕ). Suffix (x ∷ []) 2) (sym (eqb-true b 50 t)) halfMark))
+    (λ t. rw t (half-is b (eqb-true b 50 t)))
     (λ t. bool-cases (eqb b 39)
-    (λ s. rw (t, s) (subst (λ (x : ℕ). Suffix (x ∷ []) 3) (sym (eqb-true b 39 s)) counterMark))
+    (λ s. rw (t, s) (counter-is b (eqb-true b 39 s)))
     (λ s. let z : _≡_ {A = ℕ} 1 0 = rw (t, s) at h in absurd (omega arith)))
 suffix-back (b ∷ x ∷ l) h =
     bool-cases (eqb b 50)
