@@ -13,9 +13,10 @@ static uint64_t taken(const char *what, uint64_t answer) {
     return cubesim_value(answer);
 }
 
-/* A refused scramble with a mark under the byte to retype, as an operator would see it. */
+/* A scramble that is refused for a token, with a mark under the byte to retype, as an operator would see it: 5, 12, 13 and 14 have a place. */
 static void point_at(const char *scramble, uint64_t answer) {
-    printf("%s\n%*s^ refused %u\n", scramble, (int)cubesim_value(answer), "", cubesim_number(answer));
+    unsigned number = cubesim_number(answer);
+    if (number == 5 || (number >= 12 && number <= 14)) printf("%s\n%*s^ refused %u\n", scramble, (int)cubesim_value(answer), "", number);
 }
 
 int main(void) {
@@ -29,8 +30,7 @@ int main(void) {
         printf("the library is of another version than its header\n");
         return 1;
     }
-    uint64_t answer = cubesim_parse_scramble(SIZE, (const uint8_t *)slip, strlen(slip), moves, 16);
-    if (cubesim_number(answer) >= 12) point_at(slip, answer);
+    point_at(slip, cubesim_parse_scramble(SIZE, (const uint8_t *)slip, strlen(slip), moves, 16));
     uint64_t count = taken("parse", cubesim_parse_scramble(SIZE, (const uint8_t *)scramble, strlen(scramble), moves, 16));
     taken("solved", cubesim_solved(SIZE, cube, STICKERS));
     uint64_t entries = taken("table", cubesim_pruning_table(SIZE, cube, STICKERS, halves, 6, 2, table, sizeof table));

@@ -130,7 +130,7 @@ impl fmt::Display for Refusal {
             Refusal::Length => "a slice is not as long as the cube needs it",
             Refusal::Code => "a code is no move",
             Refusal::Width(None) => "a width is outside its range",
-            Refusal::Width(Some(_)) => "the width of the token here must be above 1 and below the size; without digits it is 2",
+            Refusal::Width(Some(_)) => "the token that starts here has a width that must be above 1 and below the size; without digits it is 2",
             Refusal::Room => "the output is too short",
             Refusal::Bounds => "too many candidates, or a limit or depth above 20",
             Refusal::Table => "a table is not whole entries with rising keys",
@@ -138,7 +138,7 @@ impl fmt::Display for Refusal {
             Refusal::Index => "no such sticker or id",
             Refusal::Letter(_) => "a letter must stand here: U R F L D B, or x y z where no width stands before it",
             Refusal::Digits(_) => "the width that starts here must be one to three digits, the first not 0",
-            Refusal::Ending(_) => "here stands w where a width came before the letter; else at most one 2 or ' and then the token's end",
+            Refusal::Ending(_) => "the token goes wrong here: after a width and its letter comes w, then at most one 2 or ', then a space or the end",
         };
         write!(f, "refused {}", self.number())?;
         if let Some(at) = self.place() {
@@ -284,10 +284,14 @@ pub fn all_moves(n: usize, out: &mut [u16]) -> Result<usize, Refusal> {
 /// assert_eq!(parse_scramble(4, b"R2 3Uw'", &mut out), Ok(2));
 /// assert_eq!(out[..2], [14, 219]);
 /// assert_eq!(parse_scramble(3, b"R 2R", &mut out), Err(Refusal::Ending(4)));
-/// assert_eq!(parse_scramble(3, b"R 2x", &mut out), Err(Refusal::Letter(3)));
+/// assert_eq!(parse_scramble(3, b"R 4Uw", &mut out), Err(Refusal::Width(Some(2))));
 /// let refused = parse_scramble(4, b"R 02Uw", &mut out).unwrap_err();
 /// assert_eq!((refused.number(), refused.place()), (13, Some(2)));
-/// assert_eq!(refused.to_string(), "refused 13 at 2: the width that starts here must be one to three digits, the first not 0");
+/// let told = |text: &[u8]| parse_scramble(4, text, &mut [0u16; 4]).unwrap_err().to_string();
+/// assert_eq!(told(b"R 02Uw"), "refused 13 at 2: the width that starts here must be one to three digits, the first not 0");
+/// assert_eq!(told(b"R 2x"), "refused 12 at 3: a letter must stand here: U R F L D B, or x y z where no width stands before it");
+/// assert_eq!(told(b"R2'"), "refused 14 at 2: the token goes wrong here: after a width and its letter comes w, then at most one 2 or ', then a space or the end");
+/// assert_eq!(told(b"4Uw"), "refused 5 at 0: the token that starts here has a width that must be above 1 and below the size; without digits it is 2");
 /// ```
 pub fn parse_scramble(n: usize, text: &[u8], out: &mut [u16]) -> Result<usize, Refusal> {
     taken(unsafe { raw::cubesim_parse_scramble(n as u64, text.as_ptr(), text.len(), out.as_mut_ptr(), out.len()) }, true)

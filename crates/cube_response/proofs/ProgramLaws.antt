@@ -16,8 +16,8 @@ use Rattle.tokens.specs.Token.{digitOf, isDigit, digitsOf, numberOf}
 use Rattle.tokens.proofs.TokenLaws.{digit-back}
 use Rattle.tokens.specs.Words.{tokensOf}
 use Rattle.scramble_parser.specs.Parse.{reading}
-use Rattle.io.specs.Digits.{glyph, digits, Fewest}
 use Rattle.cube_response.specs.Program.{firstLine, afterLine, lineTwo, tooLong, tooLongText, refusedText, feed, isSize, sizeOf, decimalIn, decimal, scrambleAnswer, answerTo, response}
+use Rattle.io.specs.Digits.{glyph, digits, Fewest}
 
 -- ---- where a line ends
 

@@ -10,18 +10,18 @@ use lib.Dec.{ltb}
 use lib.ListN.{length, getD, take, drop, set, length-append, length-drop}
 use lib.Seq.{sets-eq, take-at, drop-cons, set-append-seam, append-snoc}
 use borrow.Author.Tests.{le-ltb}
-use Rattle.generic_cube.specs.Inner.{Sized}
 use Rattle.ground.proofs.ChoiceLaws.{bool-cases}
+use Rattle.ground.specs.Inner.{Put}
+use Rattle.ground.proofs.PutLaws.{put-then}
+use Rattle.generic_cube.specs.Inner.{Sized}
 use Rattle.generic_cube.specs.declared.Done.{Done}
 use Rattle.generic_cube.specs.Sizes.{sized, stickers}
 use Rattle.generic_cube.specs.Answers.{DoneWith}
 use Rattle.generic_cube.specs.Code.{listRefusal}
 use Rattle.generic_cube.proofs.CodeLaws.{bounds-sized}
-use Rattle.ground.specs.Inner.{Put}
-use Rattle.ground.proofs.PutLaws.{put-then}
+use Rattle.tokens.specs.Words.{tokensOf}
 use Rattle.scramble_parser.specs.declared.Parsed.{Parsed}
 use Rattle.scramble_parser.specs.declared.Parsed.the-variants.{Moves, Refused, RefusedAt}
-use Rattle.tokens.specs.Words.{tokensOf}
 use Rattle.scramble_parser.specs.Parse.{Reading, codes, bad, reading, answerOf, filledBy, parseAnswer, parseOut, ParseResult}
 use Rattle.scramble_parser.proofs.ParseLaws.{reading-taken, reading-few}
 use Rattle.geometric_moves.specs.Turn.{run}

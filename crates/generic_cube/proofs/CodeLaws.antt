@@ -225,6 +225,18 @@ module _ (low high : ℕ) where
   unfolding refusalIn
   good-taken cs g = pass-lowest (rowsIn low high cs) (good-codes cs g, (good-widths cs g, tt))
 
+-- a code of a turn, a kind, and a width where the kind has one, is such a code
+pub good-move : (low high : ℕ) (m : Move) → 1 ≤ m .turn → m .turn ≤ 3 → m .kind < 15 → (isWide (m .kind) ≡ false → m .width ≡ 0)
+    → (isWide (m .kind) ≡ true → outside low high (m .width) ≡ false) → Good low high (codeOf m)
+unfolding badCode
+good-move low high m l h k w o =
+    let e = move-code m (omega arith) h in
+    let a = ne-eqb (m .turn) 0 (omega arith) in
+    let b = ne-eqb (m .kind) 15 (omega arith) in
+    bool-cases (isWide (m .kind))
+    (λ t. record { code = rw (e, a, b, t); width = rw (e, t) (o t) })
+    (λ t. record { code = rw (e, a, b, t, eq-eqb _ _ (w t)); width = rw (e, t) })
+
 -- each of its moves is fair, and is read as itself
 module _ (n : ℕ) (cs : List ℕ) (e : listRefusal n cs ≡ 0) where
   pub list-code : (i : ℕ) → i < length cs → badCode (moveOf (getD cs i 0)) ≡ false

@@ -16,15 +16,15 @@ use Rattle.generic_cube.specs.Code.{moveOf, isWide, refusalIn, listRefusal}
 use Rattle.generic_cube.proofs.CodeLaws.{Good, AllGood, good-taken, inside, inside-not}
 use Rattle.tokens.specs.Token.{readToken}
 use Rattle.tokens.specs.Words.{Run, wordsFrom, tokensOf}
-use Rattle.scramble_parser.specs.Parse.{Reading, codes, bad, ahead, reading, parseAnswer, parseOut, ParseResult}
 use Rattle.tokens.specs.Inner.{Found}
-use Rattle.scramble_parser.specs.Inner.{tally, upTo, prefix}
 use Rattle.tokens.specs.declared.Token.{Token}
 use Rattle.tokens.specs.declared.Token.the-variants.{Is, Not}
-use Rattle.scramble_parser.specs.declared.Parsed.{Parsed}
-use Rattle.scramble_parser.specs.declared.Parsed.the-variants.{Moves, Refused, RefusedAt}
 use Rattle.tokens.proofs.WordLaws.{words-few}
 use Rattle.tokens.proofs.TokenLaws.{token-good, place-within}
+use Rattle.scramble_parser.specs.Parse.{Reading, codes, bad, ahead, reading, parseAnswer, parseOut, ParseResult}
+use Rattle.scramble_parser.specs.Inner.{tally, upTo, prefix}
+use Rattle.scramble_parser.specs.declared.Parsed.{Parsed}
+use Rattle.scramble_parser.specs.declared.Parsed.the-variants.{Moves, Refused, RefusedAt}
 
 -- ---- the pass that counts
 

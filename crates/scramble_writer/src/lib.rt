@@ -1,4 +1,4 @@
-// The scramble writer, which the crate has not.
+// The scramble writer, for which the source has none: the text that the reader reads back.
 ghost use mathlib.Core.Path.{_≡_};
 ghost use mathlib.Core.List.{[], _∷_};
 ghost use Prim.Native.Nat.{_<_, _≤_, _+_};

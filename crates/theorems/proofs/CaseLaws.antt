@@ -6,11 +6,11 @@ use Rattle.ground.specs.Refusals.{lowest}
 use Rattle.generic_cube.specs.Sizes.{sized}
 use Rattle.generic_cube.specs.Code.{codeOf, moveOf, turnedTo, outside, joins}
 use Rattle.generic_cube.specs.StickerIndex.{stickerRefusal, stickerIndex}
-use Rattle.geometric_moves.specs.Turn.{sameFace, whither, inverseRot, turnOf, quarterOf, kindFace, layersOf, takes, target, source, moved, run}
+use Rattle.move_lists.specs.Lists.{push, simplify}
 use Rattle.tokens.specs.Token.{digitOf, isDigit, digitsOf, numberOf, tokenWidth, letterOf, isWideToken, plainKind, markOf, suffixAt, tokenMove, badDigits, noLetter, noW, bytesLeft, badTokenWidth, unlessFault, readBehind, readToken}
 use Rattle.tokens.specs.Words.{isSpace, isSign, endsWord, wordBytes, words}
 use Rattle.scramble_parser.specs.Parse.{reading, parseAnswer}
-use Rattle.move_lists.specs.Lists.{push, simplify}
+use Rattle.geometric_moves.specs.Turn.{sameFace, whither, inverseRot, turnOf, quarterOf, kindFace, layersOf, takes, target, source, moved, run}
 use Rattle.theorems.specs.Cases.{Cases}
 
 pub cases : Cases

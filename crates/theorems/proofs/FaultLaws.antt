@@ -18,8 +18,8 @@ use Rattle.tokens.specs.declared.Token.the-variants.{Is, Not}
 use Rattle.tokens.specs.Token.{digitOf, isDigit, digitsOf, tokenWidth, kindLetters, letterOf, letterAt, isWideToken, markOf, suffixAt, tokenEnd, tokenMove, badDigits, noLetter, noW, bytesLeft, readBehind, readToken}
 use Rattle.tokens.specs.Inner.{Lettered}
 use Rattle.tokens.specs.Words.{Run}
-use Rattle.scramble_parser.specs.Parse.{Reading, codes, bad, ahead, reading}
 use Rattle.tokens.proofs.TokenLaws.{digit-back, wide-letter, digits-parts, parts-digits, letter-parts, parts-letter, w-parts, end-left, Formed, formed-by, stands, letter-stands, DigitsEnd, digits-end, end-within, suffix-wide, suffix-plain, face-letter, out-digits, out-letter, out-w, out-left}
+use Rattle.scramble_parser.specs.Parse.{Reading, codes, bad, ahead, reading}
 use Rattle.theorems.specs.Notation.{Suffix, Width, noDigits, Shaped, NoDigit, NoneOf, ByteLeft, noMark, oneMark, Faulty, zeroFirst, fourDigits, noLetterHere, noWHere, plainLeft, wideLeft, HasFault, FaultFound, Refusing, forFault, forWidth, Refuses, FirstBad, FirstRefused}
 use Rattle.theorems.proofs.GrammarLaws.{digit-is, letter-place, letter-is, marked, half-is, counter-is, width-read, letter-back, is-a-digit, width-back, split-plain, split-wide, formed-shaped, shaped-reads, taken-width, width-refused}
 

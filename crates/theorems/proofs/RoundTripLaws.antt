@@ -20,10 +20,10 @@ use Rattle.generic_cube.proofs.CodeLaws.{sized-bounds, Good, AllGood, taken-goo
 use Rattle.tokens.specs.declared.Token.{Token}
 use Rattle.tokens.specs.declared.Token.the-variants.{Is}
 use Rattle.tokens.specs.Words.{isSpace, endsWord, wordBytes, words}
-use Rattle.scramble_parser.specs.Parse.{codes, ahead, reading, parseAnswer, parseOut}
-use Rattle.scramble_writer.specs.Write.{textOf, restText, listText, writeRefusal}
 use Rattle.tokens.proofs.WordLaws.{words-word}
+use Rattle.scramble_writer.specs.Write.{textOf, restText, listText, writeRefusal}
 use Rattle.scramble_writer.proofs.WriteLaws.{write-fits}
+use Rattle.scramble_parser.specs.Parse.{codes, ahead, reading, parseAnswer, parseOut}
 use Rattle.theorems.specs.Notation.{RoundTrips, ReadsBack, ExactRoom}
 use Rattle.theorems.proofs.GrammarLaws.{accepts}
 use Rattle.theorems.proofs.WriterLaws.{text-spelled, shaped-some, shaped-word}

@@ -6,9 +6,8 @@ use lib.Dec.{eqb}
 use borrow.Author.Tests.{eqb-false}
 use Rattle.ground.proofs.ChoiceLaws.{bool-cases}
 use Rattle.generic_cube.specs.Code.{moveOf, codeOf, withTurn, turnedTo, joins}
-use Rattle.generic_cube.proofs.CodeLaws.{Good, AllGood, taken-good, good-taken, code-bounds, code-width, turn-most}
+use Rattle.generic_cube.proofs.CodeLaws.{Good, AllGood, taken-good, good-taken, code-bounds, code-width, turn-most, good-move}
 use Rattle.move_lists.specs.Lists.{turnSum, push, simplify, inverseOf, inverse}
-use Rattle.tokens.proofs.TokenLaws.{good-move}
 use Rattle.theorems.specs.Notation.{SimplifyTaken, InverseTaken}
 
 module _ (low high : ℕ) where

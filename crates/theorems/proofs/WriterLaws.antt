@@ -16,8 +16,8 @@ use Rattle.generic_cube.proofs.AllMovesLaws.{holds-at}
 use Rattle.generic_cube.proofs.CodeLaws.{move-eq, turn-most, code-bounds, code-width, inside, Good}
 use Rattle.tokens.specs.Token.{kindLetters, plainKind}
 use Rattle.tokens.specs.Words.{isSpace, isSign, endsWord}
-use Rattle.scramble_writer.specs.Write.{kindByte, markText, widthText, tokenText, textOf}
 use Rattle.tokens.proofs.TokenLaws.{plain-kind, wide-of, token-good}
+use Rattle.scramble_writer.specs.Write.{kindByte, markText, widthText, tokenText, textOf}
 use Rattle.scramble_writer.proofs.WriteLaws.{width-none, width-one, width-two, width-three}
 use Rattle.theorems.specs.Notation.{Suffix, quarterMark, halfMark, counterMark, Width, noDigits, oneDigit, twoDigits, threeDigits, Shaped, plainToken, wideToken, Spelled, TwoTexts}
 use Rattle.theorems.proofs.GrammarLaws.{width-taken, accepts-no-other}

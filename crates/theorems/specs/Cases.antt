@@ -6,10 +6,10 @@ use Rattle.generic_cube.specs.declared.Answer.the-variants.{Value}
 use Rattle.generic_cube.specs.Answers.{answer}
 use Rattle.generic_cube.specs.Code.{move, codeOf}
 use Rattle.generic_cube.specs.StickerIndex.{stickerRefusal, stickerIndex}
-use Rattle.geometric_moves.specs.Turn.{run}
+use Rattle.move_lists.specs.Lists.{simplify}
 use Rattle.scramble_parser.specs.declared.Parsed.the-variants.{Moves, RefusedAt}
 use Rattle.scramble_parser.specs.Parse.{parseAnswer}
-use Rattle.move_lists.specs.Lists.{simplify}
+use Rattle.geometric_moves.specs.Turn.{run}
 
 pub record Cases : Type 0 where
   -- codes R2 14, Uw 153, 10Dw 685

@@ -5,8 +5,8 @@ use mathlib.Core.List.{List}
 use lib.ListN.{length}
 use Rattle.generic_cube.specs.Sizes.{stickers}
 use Rattle.generic_cube.specs.Code.{move, listRefusal}
-use Rattle.geometric_moves.specs.Turn.{moved, run}
 use Rattle.move_lists.specs.Lists.{simplify, inverse}
+use Rattle.geometric_moves.specs.Turn.{moved, run}
 
 -- a simplified list has the input's effect on every cube of that size
 abbrev pub SimplifyKeeps : Type 0

@@ -12,14 +12,14 @@ use Rattle.generic_cube.specs.declared.Move.{Move}
 use Rattle.generic_cube.specs.declared.Answer.the-variants.{Value}
 use Rattle.generic_cube.specs.Sizes.{sized}
 use Rattle.generic_cube.specs.Code.{move, moveOf, isWide, refusalIn}
-use Rattle.scramble_parser.specs.declared.Parsed.{Parsed}
-use Rattle.scramble_parser.specs.declared.Parsed.the-variants.{Moves}
+use Rattle.move_lists.specs.Lists.{simplify, Reduced, Turned, Steps, inverse}
 use Rattle.tokens.specs.declared.Token.the-variants.{Is, Not}
 use Rattle.tokens.specs.Token.{kindLetters, plainKind, readToken}
 use Rattle.tokens.specs.Words.{Run, tokensOf}
-use Rattle.scramble_parser.specs.Parse.{codes, bad, reading, ParseResult}
 use Rattle.scramble_writer.specs.Write.{textOf, listText, writeRefusal, WriteResult}
-use Rattle.move_lists.specs.Lists.{simplify, Reduced, Turned, Steps, inverse}
+use Rattle.scramble_parser.specs.declared.Parsed.{Parsed}
+use Rattle.scramble_parser.specs.declared.Parsed.the-variants.{Moves}
+use Rattle.scramble_parser.specs.Parse.{codes, bad, reading, ParseResult}
 
 -- ---- the grammar of a token
 

@@ -8,13 +8,13 @@ use Rattle.generic_cube.specs.declared.Answer.{Answer}
 use Rattle.generic_cube.specs.Answers.{doneNo, answerNo, answerValue, answer}
 use Rattle.generic_cube.specs.AllMoves.{AllMovesResult}
 use Rattle.generic_cube.specs.StickerIndex.{stickerRefusal, stickerIndex}
+use Rattle.move_lists.specs.Lists.{SimplifyResult, InvertResult}
+use Rattle.scramble_writer.specs.Write.{WriteResult}
+use Rattle.scramble_parser.specs.Parse.{ParseResult, parsedNo, parsedValue}
 use Rattle.facelet_cube.specs.Apply.{ApplyMovesResult}
 use Rattle.facelet_cube.specs.Cube.{verdict, verdictNo, verdictValue, SolvedResult, SolvedIdsResult, MaskResult}
-use Rattle.scramble_parser.specs.Parse.{ParseResult, parsedNo, parsedValue}
-use Rattle.scramble_writer.specs.Write.{WriteResult}
-use Rattle.move_lists.specs.Lists.{SimplifyResult, InvertResult}
-use Rattle.pruning_table.specs.PruningTable.{PruningTableResult}
 use Rattle.search_theory.specs.CubeSearch.{CubeSearch}
+use Rattle.pruning_table.specs.PruningTable.{PruningTableResult}
 use Rattle.ida_star.specs.IdaStar.{IdaStarResult, outcomeNo, outcomeValue}
 use Rattle.cubesim.specs.Pack.{Packed}
 

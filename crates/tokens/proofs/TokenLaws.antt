@@ -10,9 +10,8 @@ use lib.Dec.{ltb, leb, eqb}
 use borrow.Author.Tests.{eq-eqb, ne-eqb, le-ltb, lt-leb, le-leb, eqb-true, eqb-false, ltb-true, ltb-false, leb-false, not-false}
 use Rattle.ground.specs.Choice.{pick, position, between}
 use Rattle.ground.proofs.ChoiceLaws.{anyBelow, bool-cases, less-cases, between-bounds, bounds-between, under-between, over-between, tested}
-use Rattle.generic_cube.specs.Code.{move, codeOf, isWide, badCode, outside}
-use Rattle.generic_cube.specs.declared.Move.{Move}
-use Rattle.generic_cube.proofs.CodeLaws.{move-code, Good}
+use Rattle.generic_cube.specs.Code.{move, codeOf, isWide, outside}
+use Rattle.generic_cube.proofs.CodeLaws.{Good, good-move}
 use Rattle.tokens.specs.declared.Mark.{Mark}
 use Rattle.tokens.specs.declared.Token.{Token}
 use Rattle.tokens.specs.declared.Token.the-variants.{Is, Not}
@@ -190,18 +189,6 @@ module _ (n : ℕ) (t : List ℕ) (k : ℕ) where
       ))
 
 -- ---- the code that they make
-
--- a turn, a kind, and a width where the kind has one
-pub good-move : (low high : ℕ) (m : Move) → 1 ≤ m .turn → m .turn ≤ 3 → m .kind < 15 → (isWide (m .kind) ≡ false → m .width ≡ 0)
-    → (isWide (m .kind) ≡ true → outside low high (m .width) ≡ false) → Good low high (codeOf m)
-unfolding badCode
-good-move low high m l h k w o =
-    let e = move-code m (omega arith) h in
-    let a = ne-eqb (m .turn) 0 (omega arith) in
-    let b = ne-eqb (m .kind) 15 (omega arith) in
-    bool-cases (isWide (m .kind))
-    (λ t. record { code = rw (e, a, b, t); width = rw (e, t) (o t) })
-    (λ t. record { code = rw (e, a, b, t, eq-eqb _ _ (w t)); width = rw (e, t) })
 
 module _ (t : List ℕ) (k : ℕ) where
   pub wide-move : isWideToken t k ≡ true → tokenMove t k ≡ move (letterAt t k + 6) (tokenWidth t k) (suffixOf t k .turn)

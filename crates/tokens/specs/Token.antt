@@ -113,17 +113,18 @@ pub record Fault : Type 0 where
   pub place : ℕ
   pub there : Bool
 
-abbrev pub fault : ℕ → ℕ → Bool → Fault
-fault k p b = record { number = k; place = p; there = b }
+infix 68 _at_when_
+abbrev pub _at_when_ : ℕ → ℕ → Bool → Fault
+k at p when t = record { number = k; place = p; there = t }
 
 -- 13, 12, 14: where the token stops being one of the grammar, read left to right; 5: its width, at its start, where none of these is there
 abbrev pub tokenFaults : ℕ → List ℕ → ℕ → List Fault
 tokenFaults n t k =
-    fault 13 0 (badDigits t k)
-    ∷ fault 12 k (noLetter t k)
-    ∷ fault 14 (k + 1) (noW t k)
-    ∷ fault 14 (tokenEnd t k) (bytesLeft t k)
-    ∷ fault 5 0 (badTokenWidth n t k)
+    13 at 0 when badDigits t k
+    ∷ 12 at k when noLetter t k
+    ∷ 14 at (k + 1) when noW t k
+    ∷ 14 at tokenEnd t k when bytesLeft t k
+    ∷ 5 at 0 when badTokenWidth n t k
     ∷ []
 
 -- the first fault that is there refuses the token

@@ -1,9 +1,9 @@
 -- `invert_moves`: stored in order, where nothing is refused.
 use mathlib.Core.Path.{_≡_, sym, _∙_}
 use lib.ListN.{length}
+use Rattle.generic_cube.proofs.AnswerLaws.{answer-refused}
 use Rattle.move_lists.specs.Lists.{sameRefusal}
 use Rattle.move_lists.proofs.ListLaws.{fitting, fitting-turned, invert-done}
-use Rattle.generic_cube.proofs.AnswerLaws.{answer-refused}
 use borrow.Author.Needs.{needs}
 use Rattle.move_lists.proofs.invert_moves.Statement.{statement}
 use Rattle.move_lists.proofs.invert_moves.Tie as tie

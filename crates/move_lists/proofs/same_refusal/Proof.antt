@@ -1,8 +1,8 @@
 use mathlib.Core.Path.{refl, sym, _∙_}
 use lib.ListN.{length}
 use Rattle.generic_cube.specs.Code.{listRows, listRefusal}
-use Rattle.move_lists.specs.Lists.{sameRefusal}
 use Rattle.generic_cube.proofs.FillLaws.{fill-size, fill-list, fill-short, fill-fits}
+use Rattle.move_lists.specs.Lists.{sameRefusal}
 use borrow.Author.Needs.{needs}
 use Rattle.move_lists.proofs.same_refusal.Statement.{statement}
 use Rattle.move_lists.proofs.same_refusal.Tie as tie

@@ -1,9 +1,9 @@
 -- `simplify_moves`: the stack, then zeros up to the input's length.
 use mathlib.Core.Path.{_≡_, sym, _∙_}
 use lib.ListN.{length}
+use Rattle.generic_cube.proofs.AnswerLaws.{answer-refused}
 use Rattle.move_lists.specs.Lists.{sameRefusal}
 use Rattle.move_lists.proofs.ListLaws.{fitting, fitting-turned, simplify-done}
-use Rattle.generic_cube.proofs.AnswerLaws.{answer-refused}
 use borrow.Author.Needs.{needs}
 use Rattle.move_lists.proofs.simplify_moves.Statement.{statement}
 use Rattle.move_lists.proofs.simplify_moves.Tie as tie

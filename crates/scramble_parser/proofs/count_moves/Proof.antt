@@ -5,8 +5,8 @@ use Prim.Native.Nat.{_-_}
 use mathlib.Core.Path.{sym, _∙_}
 use lib.ListN.{length}
 use Rattle.tokens.specs.Inner.{Found}
-use Rattle.scramble_parser.proofs.ParseLaws.{Counted, count-none, count-end, count-more, count-bad, bad-within}
 use Rattle.tokens.proofs.WordLaws.{found, none-left}
+use Rattle.scramble_parser.proofs.ParseLaws.{Counted, count-none, count-end, count-more, count-bad, bad-within}
 use borrow.Author.Needs.{needs}
 use Rattle.scramble_parser.proofs.count_moves.Statement.{statement}
 use Rattle.scramble_parser.proofs.count_moves.Tie as tie

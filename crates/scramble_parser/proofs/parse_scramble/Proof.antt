@@ -3,10 +3,10 @@ use native.Mathlib.Omega.{arith}
 use mathlib.Core.Logic.{⊎-elim}
 use mathlib.Core.Path.{_≡_, sym, _∙_}
 use mathlib.Core.Bool.{true}
+use Rattle.generic_cube.specs.Sizes.{sized}
 use Rattle.tokens.specs.Words.{tokensOf}
 use Rattle.scramble_parser.specs.Parse.{reading}
 use Rattle.scramble_parser.specs.declared.Parsed.the-variants.{Moves}
-use Rattle.generic_cube.specs.Sizes.{sized}
 use Rattle.scramble_parser.specs.Inner.{tally}
 use Rattle.scramble_parser.proofs.ParseLaws.{parse-size, parse-bad, parse-short, parse-room, parse-good}
 use borrow.Author.Needs.{needs}

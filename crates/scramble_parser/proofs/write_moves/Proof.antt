@@ -9,8 +9,8 @@ use Rattle.tokens.specs.declared.Token.the-variants.{Is}
 use mathlib.Core.Path.{sym, _∙_}
 use lib.ListN.{length, take, drop}
 use Rattle.tokens.specs.Inner.{Found}
-use Rattle.scramble_parser.proofs.ParseLaws.{Stored, store-none, store-end, store-more, store-bad, store-room}
 use Rattle.tokens.proofs.WordLaws.{found, none-left}
+use Rattle.scramble_parser.proofs.ParseLaws.{Stored, store-none, store-end, store-more, store-bad, store-room}
 use borrow.Author.Needs.{needs}
 use Rattle.scramble_parser.proofs.write_moves.Statement.{statement}
 use Rattle.scramble_parser.proofs.write_moves.Tie as tie

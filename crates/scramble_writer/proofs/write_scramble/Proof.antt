@@ -1,9 +1,9 @@
 -- `write_scramble`: all is known before the first byte is stored.
 use mathlib.Core.Path.{_≡_, sym, _∙_}
 use lib.ListN.{length}
+use Rattle.generic_cube.proofs.AnswerLaws.{answer-refused}
 use Rattle.scramble_writer.specs.Write.{writeRefusal}
 use Rattle.scramble_writer.proofs.WriteLaws.{write-fits, write-done}
-use Rattle.generic_cube.proofs.AnswerLaws.{answer-refused}
 use borrow.Author.Needs.{needs}
 use Rattle.scramble_writer.proofs.write_scramble.Statement.{statement}
 use Rattle.scramble_writer.proofs.write_scramble.Tie as tie
