@@ -1,7 +1,8 @@
 ghost use mathlib.Core.Path.{_≡_};
 ghost use Prim.Native.Nat.{_+_, _≤_};
-ghost use lib.ListN.{length, replicate};
-ghost use Rattle.ground.specs.Inner.{Copying};
+ghost use mathlib.Core.List.{_++_};
+ghost use lib.ListN.{length, take, replicate};
+ghost use Rattle.ground.specs.Inner.{Copying, Doubling};
 
 // Copies a short slice, byte by byte.
 fn copy_short(from: &[u8], to: &mut [u8])
@@ -67,6 +68,48 @@ pub fn copy(from: &[u8], to: &mut [u8])
         j += 16;
     }
     copy_block(from, to, last);
+}
+
+// Copies the first half of a short slice over the second, byte by byte.
+fn double_short(s: usize, to: &mut [u8])
+    requires { ⌜ length (now to) ≡ s + s ⌝ }
+    ensures { λ _. ⌜ now (to .exit) ≡ take s (now (to .entry)) ++ take s (now (to .entry)) ⌝ }
+{
+    let mut j: usize = 0;
+    while j < s {
+        to[s + j] = to[j];
+        j += 1;
+    }
+}
+
+// Sixteen bytes of the first half, in their place in the second.
+fn double_block(s: usize, to: &mut [u8], at: usize)
+    requires { ⌜ Doubling s (now to) (now to) at × (at + 16 ≤ s) ⌝ }
+    ensures { λ _. ⌜ Doubling s (now (to .entry)) (now (to .exit)) (at + 16) ⌝ }
+{
+    let end = at + 16;
+    let b = block(&to[at..end]);
+    let from = s + at;
+    let till = s + end;
+    put_block(&mut to[from..till], b);
+}
+
+// Copies the first s bytes of twice as many over the others, by blocks as `copy` does.
+pub fn double(s: usize, to: &mut [u8])
+    requires { ⌜ length (now to) ≡ s + s ⌝ }
+    ensures { λ _. ⌜ now (to .exit) ≡ take s (now (to .entry)) ++ take s (now (to .entry)) ⌝ }
+{
+    if s < 16 {
+        double_short(s, to);
+        return;
+    }
+    let last = s - 16;
+    let mut at: usize = 0;
+    while at < last {
+        double_block(s, to, at);
+        at += 16;
+    }
+    double_block(s, to, last);
 }
 
 // Zeros throughout.

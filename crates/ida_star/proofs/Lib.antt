@@ -1,3 +1,4 @@
 pub mod VisitLaws
 pub mod PassesLaws
 pub mod IdaStarLaws
+pub mod Tags

@@ -12,24 +12,7 @@ use Rattle.generic_cube.specs.Inner.{Fair}
 use Rattle.table.specs.Table.{wellFormed}
 use Rattle.search_theory.specs.Search.{Reply, none, found, Task, dfs}
 use Rattle.ida_star.specs.declared.Outcome.{Outcome}
-use Rattle.ida_star.specs.declared.Path.{Path}
-use Rattle.ida_star.specs.declared.Answer.{Answer}
 use Rattle.ida_star.specs.IdaStar.{levels, outcomeOf, outputOf}
-
--- the list that a path holds
-abbrev pub pathMoves : Path → List ℕ
-pathMoves p = take (p .len) (p .moves)
-
--- a path of 20 slots, so many of them free
-pub record Roomy (p : Path) (free : ℕ) : Type 0 where
-  pub slots : length (p .moves) ≡ 20
-  pub most : p .len + free ≤ 20
-
--- a path with one move more
-pub record Longer (p : Path) (c : ℕ) (q : Path) : Type 0 where
-  pub slots : length (q .moves) ≡ 20
-  pub count : q .len ≡ p .len + 1
-  pub holds : pathMoves q ≡ pathMoves p ++ (c ∷ [])
 
 -- what every visit is given: a size, a table and its depth, and candidates, none of which is refused
 pub record Given (n : ℕ) (table : List ℕ) (depth : ℕ) (moves : List ℕ) : Type 0 where
@@ -51,25 +34,26 @@ pub record TurnRoom (n c work : ℕ) : Type 0 where
   pub fair : Fair n (moveOf c)
   pub room : stickers n + stickers n ≤ work
 
--- a visit: a cube for each level left, and slots for the moves left
-pub record VisitReady (n : ℕ) (table : List ℕ) (depth : ℕ) (moves : List ℕ) (work : ℕ) (p : Path) (left : ℕ) : Type 0 where
+-- a visit: a cube for each level left, and slots for the moves made and the moves left
+pub record VisitReady (n : ℕ) (table : List ℕ) (depth : ℕ) (moves : List ℕ) (work path len left : ℕ) : Type 0 where
   pub given : Given n table depth moves
   pub room : levels n left ≤ work
-  pub path : Roomy p left
+  pub slots : len + left ≤ path
 
--- a list was found
-pub record AnswerHit (reply : Reply) (a : Answer) : Type 0 where
-  pub is : reply ≡ found (pathMoves (a .path))
-  pub path : Roomy (a .path) 0
+-- the list that was found, if one was, is in the first slots
+abbrev pub Held : Reply → List ℕ → Type 0
+Held none path = Unit {0}
+Held (found q) path = take (length q) path ≡ q
 
 -- what an answer tells
-pub record AnswerTold (reply : Reply) (a : Answer) : Type 0 where
-  pub missed : a .found ≡ false → reply ≡ none
-  pub hit : a .found ≡ true → AnswerHit reply a
+pub record AnswerTold (reply : Reply) (path : List ℕ) (r : Outcome) : Type 0 where
+  pub answered : r ≡ outcomeOf reply
+  pub held : Held reply path
 
--- what a visit tells, and that it leaves its own level's cube
-pub record VisitTold (t : Task) (s left : ℕ) (p : Path) (work work′ : List ℕ) (a : Answer) : Type 0 where
-  pub told : AnswerTold (dfs t left (pathMoves p) (take s work)) a
+-- what a visit tells, and that it leaves the moves made and its own level's cube
+pub record VisitTold (t : Task) (s left len : ℕ) (path path′ work work′ : List ℕ) (r : Outcome) : Type 0 where
+  pub told : AnswerTold (dfs t left (take len path) (take s work)) path′ r
+  pub made : take len path′ ≡ take len path
   pub kept : take s work′ ≡ take s work
 
 -- a pass: the cube, and a level for each move left and one more

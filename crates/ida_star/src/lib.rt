@@ -1,15 +1,15 @@
 // The search: `ida_star` and `dfs` of generic_solver.rs.
 ghost use mathlib.Core.Path.{_≡_};
-ghost use mathlib.Core.List.{[], _++_};
+ghost use mathlib.Core.List.{[]};
 ghost use Prim.Native.Nat.{_≤_};
-ghost use lib.ListN.{length, drop};
+ghost use lib.ListN.{length};
 ghost use Rattle.generic_cube.specs.Sizes.{stickers};
 ghost use Rattle.generic_cube.specs.Code.{moveOf, barred};
 ghost use Rattle.geometric_moves.specs.Turn.{moved};
 ghost use Rattle.search_theory.specs.Search.{bars, dfs};
 ghost use Rattle.search_theory.specs.CubeSearch.{cubeTask};
 ghost use Rattle.ida_star.specs.IdaStar.{reply, searchRefusal, IdaStarResult};
-ghost use Rattle.ida_star.specs.Inner.{pathMoves, Roomy, Longer, next, TurnRoom, VisitReady, AnswerTold, VisitTold, Starting, PassesTold, Late, lateRefusal};
+ghost use Rattle.ida_star.specs.Inner.{next, TurnRoom, VisitReady, AnswerTold, VisitTold, Starting, PassesTold, Late, lateRefusal};
 use generic_cube::Code;
 use ground::codes::MoveCode;
 
@@ -20,112 +20,79 @@ pub enum Outcome {
     Refused(u8),
 }
 
-// The moves made so far.
-pub struct Path {
-    pub moves: [MoveCode; 20],
-    pub len: usize,
-}
-
-// Whether a visit found a list, and that list, with the moves made before.
-pub struct Answer {
-    pub found: bool,
-    pub path: Path,
-}
-
-// Whether a move may not follow the last of a path.
-fn path_bars(path: Path, code: MoveCode) -> bool
-    requires { ⌜ Roomy path 0 ⌝ }
-    ensures { λ r. ⌜ r ≡ bars barred (pathMoves path) code ⌝ }
+// Whether a move may not follow the last of those made.
+fn path_bars(made: &[MoveCode], code: MoveCode) -> bool
+    ensures { λ r. ⌜ r ≡ bars barred (now (made .entry)) code ⌝ }
 {
-    let len = path.len;
+    let len = made.len();
     if len == 0 {
         return false;
     }
-    let last = path.moves[len - 1];
-    generic_cube::is_barred(last, code)
+    generic_cube::is_barred(made[len - 1], code)
 }
 
-// A path with one move more.
-fn pushed(path: Path, code: MoveCode) -> Path
-    requires { ⌜ Roomy path 1 ⌝ }
-    ensures { λ q. ⌜ Longer path code q ⌝ }
-{
-    let mut q = path;
-    let len = path.len;
-    q.moves[len] = code;
-    q.len = len + 1;
-    q
-}
-
-// The next level's cube: this level's, turned, by way of a copy of it.
-fn turn_level(n: usize, code: MoveCode, here: &mut [u8], work: &mut [u8])
-    requires { ⌜ TurnRoom n code (length (now work)) × (length (now here) ≡ stickers n) ⌝ }
+// The next level's cube: a copy of this level's, turned where it stands.
+fn turn_level(n: usize, code: MoveCode, work: &mut [u8])
+    requires { ⌜ TurnRoom n code (length (now work)) ⌝ }
     ensures { λ _. ⌜ now (work .exit) ≡ next (stickers n) (moved n (moveOf code)) (now (work .entry)) ⌝ }
 {
     let Code::Taken(m) = generic_cube::read_code(code) else {
         return;
     };
-    let s = here.len();
-    ground::bytes::copy(&work[..s], here);
-    let end = s + s;
-    facelet_cube::letters::compute_permutation(n, m, here, &mut work[s..end]);
-}
-
-// The same, with the copy's bytes.
-fn advance(n: usize, code: MoveCode, work: &mut [u8])
-    requires { ⌜ TurnRoom n code (length (now work)) ⌝ }
-    ensures { λ _. ⌜ now (work .exit) ≡ next (stickers n) (moved n (moveOf code)) (now (work .entry)) ⌝ }
-{
     let s = 6 * n * n;
-    let mut here = [0u8; 294];
-    turn_level(n, code, &mut here[..s], work);
+    let end = s + s;
+    ground::bytes::double(s, &mut work[..end]);
+    facelet_cube::letters::apply_move(n, m, &mut work[s..end]);
 }
 
-// One visit: the source's `dfs` at this level's cube, with so many moves left.
+// One visit: the source's `dfs` at this level's cube, with so many moves left. The moves made are the first `len` of the path.
 fn dfs(
     n: usize,
     table: &[u8],
     depth: usize,
     moves: &[MoveCode],
     work: &mut [u8],
-    path: Path,
+    path: &mut [MoveCode],
+    len: usize,
     left: usize,
-) -> Answer
-    requires { ⌜ VisitReady n (now table) depth (now moves) (length (now work)) path left ⌝ }
-    ensures { λ a. ⌜ VisitTold (cubeTask n (now (table .entry)) depth (now (moves .entry))) (stickers n) left path (now (work .entry)) (now (work .exit)) a ⌝ }
+) -> Outcome
+    requires { ⌜ VisitReady n (now table) depth (now moves) (length (now work)) (length (now path)) len left ⌝ }
+    ensures { λ r. ⌜ VisitTold (cubeTask n (now (table .entry)) depth (now (moves .entry))) (stickers n) left len (now (path .entry)) (now (path .exit)) (now (work .entry)) (now (work .exit)) r ⌝ }
 {
     let s = 6 * n * n;
     let number = table::number(table, s, depth, &work[..s]);
     if number == 0 {
-        return Answer { found: true, path };
+        return Outcome::Found(len);
     }
     if left < number {
-        return Answer { found: false, path };
+        return Outcome::Nothing;
     }
     let mut i = 0;
     while i < moves.len() {
         let code = moves[i];
-        if !path_bars(path, code) {
-            advance(n, code, work);
-            let a = dfs(
+        if !path_bars(&path[..len], code) {
+            turn_level(n, code, work);
+            path[len] = code;
+            let r = dfs(
                 n,
                 table,
                 depth,
                 moves,
                 &mut work[s..],
-                pushed(path, code),
+                path,
+                len + 1,
                 left - 1,
             );
-            if a.found {
-                return a;
+            if let Outcome::Found(count) = r {
+                return Outcome::Found(count);
             }
         }
         i += 1;
     }
-    Answer { found: false, path }
+    Outcome::Nothing
 }
 
-// One pass, from the cube, with so many moves left.
+// One pass, from the cube, with so many moves left and none made.
 fn pass(
     n: usize,
     cube: &[u8],
@@ -134,29 +101,14 @@ fn pass(
     moves: &[MoveCode],
     left: usize,
     work: &mut [u8],
-) -> Answer
-    requires { ⌜ Starting n (now cube) (now table) depth (now moves) left (length (now work)) ⌝ }
-    ensures { λ a. ⌜ AnswerTold (dfs (cubeTask n (now (table .entry)) depth (now (moves .entry))) left [] (now (cube .entry))) a ⌝ }
+    path: &mut [MoveCode],
+) -> Outcome
+    requires { ⌜ Starting n (now cube) (now table) depth (now moves) left (length (now work)) × (left ≤ length (now path)) ⌝ }
+    ensures { λ r. ⌜ AnswerTold (dfs (cubeTask n (now (table .entry)) depth (now (moves .entry))) left [] (now (cube .entry))) (now (path .exit)) r ⌝ }
 {
     let s = 6 * n * n;
     ground::bytes::copy(cube, &mut work[..s]);
-    let slots: [MoveCode; 20] = [0; 20];
-    let path = Path {
-        moves: slots,
-        len: 0,
-    };
-    dfs(n, table, depth, moves, work, path, left)
-}
-
-// The moves of a path, in the first slots of the output.
-fn store(path: Path, out: &mut [MoveCode])
-    requires { ⌜ Roomy path 0 ⌝ }
-    requires { ⌜ path .len ≤ length (now out) ⌝ }
-    ensures { λ _. ⌜ now (out .exit) ≡ pathMoves path ++ drop (path .len) (now (out .entry)) ⌝ }
-{
-    let len = path.len;
-    let moves = path.moves;
-    ground::codes::copy(&moves[..len], &mut out[..len]);
+    dfs(n, table, depth, moves, work, path, 0, left)
 }
 
 // The passes, under rising limits.
@@ -174,14 +126,13 @@ fn rise(
     requires { ⌜ limit ≤ length (now out) ⌝ }
     ensures { λ r. ⌜ PassesTold (reply (record { n = n; cube = now (cube .entry); table = now (table .entry); depth = depth; candidates = now (moves .entry); limit = limit })) (now (out .entry)) (now (out .exit)) r ⌝ }
 {
+    let mut path: [MoveCode; 20] = [0; 20];
     let mut left = 0;
     while left <= limit {
-        let a = pass(n, cube, table, depth, moves, left, work);
-        if a.found {
-            let path = a.path;
-            let len = path.len;
-            store(path, out);
-            return Outcome::Found(len);
+        let r = pass(n, cube, table, depth, moves, left, work, &mut path[..limit]);
+        if let Outcome::Found(count) = r {
+            ground::codes::copy(&path[..count], &mut out[..count]);
+            return Outcome::Found(count);
         }
         left += 1;
     }

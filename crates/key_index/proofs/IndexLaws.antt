@@ -11,7 +11,6 @@ use borrow.Author.Count.{below-more}
 use borrow.Author.Tests.{ltb-true, ltb-false}
 use Rattle.ground.proofs.ChoiceLaws.{order-cases, less-cases}
 use Rattle.table.specs.Entries.{entryKey, Present}
-use Rattle.table.proofs.TableLaws.{there-long}
 use Rattle.table.specs.Inner.{EntryThere}
 use Rattle.key_index.specs.declared.Found.{Found}
 use Rattle.key_index.specs.declared.Found.the-variants.{Here, Gap, Lost, Outside}
@@ -47,18 +46,14 @@ pub class-most : (s : List ℕ) → classOf s < classes
 unfolding classOf
 class-most s = omega arith
 
--- an entry's key can be compared with one of its length
-pub comparable : {m i n : ℕ} {t a : List ℕ} → EntryThere m t i → m % 6 ≡ 0 → n ≡ m → a ≡ entryKey m t i → (length a ≡ n) × (length a % 6 ≡ 0)
-comparable h six long e = let l = there-long h e in (l ∙ sym long, ap (λ (n : ℕ). n % 6) l ∙ six)
-
 -- the entry of a taken slot is there
 pub slot-held : {m : ℕ} {t s index : List ℕ} {at : ℕ} → Probing m t s index at → (p : ℕ) → (getD index p 0 ≡ 0 → ⊥) → EntryThere m t (getD index p 0 - 1)
-slot-held x p n = record { short = x .short; there = omega (arith, x .within p) }
+slot-held x p n = record { short = x .whole .short; there = omega (arith, x .within p) }
 
 -- fewer entries can be filed too
 pub filing-less : {m count i : ℕ} {t : List ℕ} → Filing m count t → i < count → Filing m (i + 1) t
 filing-less x h =
-    record { reading = record { short = x .reading .short; sixes = x .reading .sixes; room = omega (arith, x .reading .room) }; few = omega (arith, x .few) }
+    record { reading = record { whole = x .reading .whole; room = omega (arith, x .reading .room) }; few = omega (arith, x .few) }
 
 -- the slots from `at` up to p are taken; and what holds of them goes on by a slot
 abbrev pub Full : List ℕ → ℕ → ℕ → Type 0

@@ -1,48 +1,13 @@
--- Laws of keys read six bytes at a time: whether two are the same, the hash, and where its run begins.
+-- Laws of a key's hash and of where its run begins.
 use Prim.Native.Nat.{ℕ, zero, suc, _+_, _-_, _*_, _/_, _≤_, _<_}
 use mathlib.Core.Path.{_≡_, refl, ap, _∙_}
 use mathlib.Core.List.{List}
-use native.Mathlib.Nat.{add-zero, mul-le-mul-right}
+use native.Mathlib.Nat.{mul-le-mul-right}
 use native.Mathlib.Numerals.{add-one}
 use native.Mathlib.Omega.{arith}
-use lib.ListN.{length, getD}
-use lib.Seq.{ext-getD}
-use borrow.Author.Count.{below-none, below-more}
-use Rattle.ground.proofs.ChoiceLaws.{less-cases}
-use Rattle.key_index.specs.InnerIndex.{runLength, classes, mixed, wordOf, hashUp, hashOf, runStartOf, runStart}
-
--- a number's lowest byte, and the rest of it
-byte-step : {x y p q : ℕ} → x < 256 → y < 256 → x + 256 * p ≡ y + 256 * q → (x ≡ y) × (p ≡ q)
-byte-step hx hy e = (omega arith, omega arith)
-
--- two lists have the same first n elements
-abbrev pub SameWords : List ℕ → List ℕ → ℕ → Type 0
-SameWords a b n = (j : ℕ) → j < n → getD a j 0 ≡ getD b j 0
-
--- equal words have the same six bytes
-module _ (a b : List ℕ) (below : (j : ℕ) → getD a j 0 < 256) (below′ : (j : ℕ) → getD b j 0 < 256) where
-  word-bytes : (j : ℕ) → wordOf a j ≡ wordOf b j → (k : ℕ) → k < 6 → getD a (j + k) 0 ≡ getD b (j + k) 0
-  word-bytes j e =
-      let P : ℕ → Type 0 = λ k. getD a (j + k) 0 ≡ getD b (j + k) 0 in
-      let w0 = byte-step (below j) (below′ j) e in
-      let w1 = byte-step (below (j + 1)) (below′ (j + 1)) (w0 .1) in
-      let w2 = byte-step (below (j + 2)) (below′ (j + 2)) (w1 .1) in
-      let w3 = byte-step (below (j + 3)) (below′ (j + 3)) (w2 .1) in
-      let w4 = byte-step (below (j + 4)) (below′ (j + 4)) (w3 .1) in
-      let to-1 = below-more P 0 (below-none P) (rw add-zero (w0 .0)) in
-      let to-3 = below-more P 2 (below-more P 1 to-1 (w1 .0)) (w2 .0) in
-      below-more P 5 (below-more P 4 (below-more P 3 to-3 (w3 .0)) (w4 .0)) (w4 .1)
-
-  pub same-more : (i : ℕ) → SameWords a b (6 * i) → wordOf a (6 * i) ≡ wordOf b (6 * i) → SameWords a b (6 * (i + 1))
-  same-more i f e j h =
-      less-cases j (6 * i) (f j)
-      (λ g.
-      let at : 6 * i + (j - 6 * i) ≡ j = omega arith in
-      rw at at (word-bytes (6 * i) e (j - 6 * i) (omega arith)))
-
--- all the words are the same
-pub same-all : (a b : List ℕ) (i : ℕ) → length a ≡ length b → length a ≤ 6 * i → SameWords a b (6 * i) → a ≡ b
-same-all a b i e h f = ext-getD 0 a b e (λ j g. f j (omega arith))
+use lib.ListN.{length}
+use Rattle.table.specs.Inner.{wordOf}
+use Rattle.key_index.specs.InnerIndex.{runLength, classes, mixed, hashUp, hashOf, runStartOf, runStart}
 
 -- the hash goes on by a word
 pub hash-none : (key : List ℕ) → 0 ≡ hashUp key 0

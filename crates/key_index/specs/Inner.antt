@@ -1,11 +1,12 @@
 -- Inner contracts: what the functions over an index ask and tell.
-use Prim.Native.Nat.{ℕ, _+_, _-_, _%_, _≤_, _<_}
+use Prim.Native.Nat.{ℕ, _+_, _-_, _≤_, _<_}
 use mathlib.Core.Path.{_≡_}
 use mathlib.Core.Bool.{Bool, true, false}
 use mathlib.Core.List.{List}
 use lib.ListN.{length, getD}
 use Rattle.table.specs.Entries.{entryKey, Present}
 use Rattle.table.specs.Table.{entryCount}
+use Rattle.table.specs.Inner.{KeyLength}
 use Rattle.key_index.specs.declared.Found.{Found}
 use Rattle.key_index.specs.declared.Found.the-variants.{Here, Gap, Lost, Outside}
 use Rattle.key_index.specs.declared.Classes.{Classes}
@@ -20,16 +21,14 @@ pub record Says (A : Type 0) (r : Bool) : Type 0 where
   pub yes : r ≡ true → A
   pub no : r ≡ false → A → ⊥
 
--- the first `count` entries can be read; a key is whole words of six bytes
+-- the first `count` entries can be read
 pub record Readable (m count : ℕ) (t : List ℕ) : Type 0 where
-  pub short : m < 1000
-  pub sixes : m % 6 ≡ 0
+  pub whole : KeyLength m
   pub room : count ≤ entryCount m t
 
 -- a key is looked up from a slot on: every slot's entry can be read
 pub record Probing (m : ℕ) (t s index : List ℕ) (at : ℕ) : Type 0 where
-  pub short : m < 1000
-  pub sixes : m % 6 ≡ 0
+  pub whole : KeyLength m
   pub long : length s ≡ m
   pub fits : at + runLength ≤ length index
   pub within : (j : ℕ) → getD index j 0 ≤ entryCount m t

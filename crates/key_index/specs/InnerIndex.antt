@@ -4,6 +4,7 @@ use mathlib.Core.Path.{_≡_}
 use mathlib.Core.List.{List}
 use lib.ListN.{length, getD, replicate}
 use Rattle.table.specs.Entries.{entryKey}
+use Rattle.table.specs.Inner.{wordOf}
 use Rattle.key_index.specs.declared.Classes.{Classes}
 
 -- how many slots a run has, and how many classes there are
@@ -12,17 +13,6 @@ runLength = 64
 
 abbrev pub classes : ℕ
 classes = 1024
-
--- two, four and six bytes as a number
-abbrev pub twoOf : List ℕ → ℕ → ℕ
-twoOf s j = getD s j 0 + 256 * getD s (j + 1) 0
-
-abbrev pub fourOf : List ℕ → ℕ → ℕ
-fourOf s j = getD s j 0 + 256 * (getD s (j + 1) 0 + 256 * (getD s (j + 2) 0 + 256 * getD s (j + 3) 0))
-
-abbrev pub wordOf : List ℕ → ℕ → ℕ
-wordOf s j =
-    getD s j 0 + 256 * (getD s (j + 1) 0 + 256 * (getD s (j + 2) 0 + 256 * (getD s (j + 3) 0 + 256 * (getD s (j + 4) 0 + 256 * getD s (j + 5) 0))))
 
 -- a hash of a key, six bytes at a time; only speed hangs on its values
 abbrev pub mixed : ℕ → ℕ → ℕ

@@ -5,8 +5,9 @@ ghost use mathlib.Core.Bool.{true};
 ghost use Prim.Native.Nat.{_+_, _%_, _≤_, _<_};
 ghost use lib.ListN.{length, replicate};
 ghost use Rattle.table.specs.Entries.{entryKey, Present};
-ghost use Rattle.key_index.specs.InnerIndex.{runLength, mixed, twoOf, fourOf, wordOf, hashOf, runStartOf, Indexed, Empty};
+ghost use Rattle.key_index.specs.InnerIndex.{runLength, mixed, hashOf, runStartOf, Indexed, Empty};
 ghost use Rattle.key_index.specs.Inner.{Says, Freed, Probing, Probed, Scanning, Filing, KeyAsked, Sought};
+use table::Order;
 
 // How many classes the keys fall into.
 pub const CLASSES: usize = 1024;
@@ -29,50 +30,16 @@ pub enum Found {
     Outside,
 }
 
-fn wide(x: u8) -> u32
-    ensures { λ r. ⌜ (r ≡ x) × (r < 256) ⌝ }
-{
-    x as u32
-}
-
-// Two bytes as a number.
-fn two(s: &[u8], j: usize) -> u32
-    requires { ⌜ j + 2 ≤ length (now s) ⌝ }
-    ensures { λ r. ⌜ (r ≡ twoOf (now (s .entry)) j) × (r < 65536) ⌝ }
-{
-    wide(s[j]) + 256 * wide(s[j + 1])
-}
-
-// Four bytes as a number.
-fn four(s: &[u8], j: usize) -> u32
-    requires { ⌜ j + 4 ≤ length (now s) ⌝ }
-    ensures { λ r. ⌜ (r ≡ fourOf (now (s .entry)) j) × (r < 4294967296) ⌝ }
-{
-    wide(s[j]) + 256 * wide(s[j + 1]) + 65536 * wide(s[j + 2]) + 16777216 * wide(s[j + 3])
-}
-
-// Six bytes as a number.
-fn word(s: &[u8], j: usize) -> usize
-    requires { ⌜ j + 6 ≤ length (now s) ⌝ }
-    ensures { λ r. ⌜ (r ≡ wordOf (now (s .entry)) j) × (r < 281474976710656) ⌝ }
-{
-    (four(s, j) as usize) + 4294967296 * (two(s, j + 4) as usize)
-}
-
-// Whether two keys are the same, six bytes at a time.
+// Whether two keys are the same.
 pub fn same(a: &[u8], b: &[u8]) -> bool
     requires { ⌜ (length (now a) ≡ length (now b)) × (length (now a) % 6 ≡ 0) ⌝ }
     ensures { λ r. ⌜ Says (now (a .entry) ≡ now (b .entry)) r ⌝ }
 {
-    let parts = a.len() / 6;
-    let mut i = 0;
-    while i < parts {
-        if word(a, 6 * i) != word(b, 6 * i) {
-            return false;
-        }
-        i += 1;
+    match table::compare(a, b) {
+        Order::Less => false,
+        Order::Same => true,
+        Order::More => false,
     }
-    true
 }
 
 fn mix(h: usize, x: usize) -> usize
@@ -89,7 +56,7 @@ pub fn hash(key: &[u8]) -> usize
     let mut h: usize = 0;
     let mut k = 0;
     while k < parts {
-        h = mix(h, word(key, 6 * k));
+        h = mix(h, table::word(key, 6 * k));
         k += 1;
     }
     h

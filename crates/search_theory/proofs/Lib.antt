@@ -1,2 +1,3 @@
 pub mod SearchLaws
 pub mod PathFreeLaws
+pub mod KeyLaws

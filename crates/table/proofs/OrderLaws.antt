@@ -1,8 +1,9 @@
 -- The order of keys is a strict order, and a walk along two keys finds it.
-use mathlib.Core.Path.{_≡_, refl, sym, ap₂, _∙_}
+use mathlib.Core.Path.{_≡_, refl, sym, ap, ap₂, subst, _∙_}
 use mathlib.Core.List.{List, [], _∷_}
 use mathlib.Core.Bool.{true, false, true≢false}
-use Prim.Native.Nat.{ℕ, _+_, _≤_, _<_}
+use Prim.Native.Nat.{ℕ, zero, suc, _+_, _*_, _/_, _≤_, _<_}
+use native.Mathlib.Nat.{add-zero}
 use native.Mathlib.Numerals.{add-one}
 use native.Mathlib.Omega.{arith}
 use lib.Dec.{ltb}
@@ -14,6 +15,7 @@ use Rattle.ground.proofs.ChoiceLaws.{order-cases}
 use Rattle.table.specs.declared.Order.{Order}
 use Rattle.table.specs.declared.Order.the-variants.{Less, Same, More}
 use Rattle.table.specs.Order.{orderOf, isSame, isLess}
+use Rattle.table.specs.Inner.{wordOf}
 
 -- an order is one of three
 pub order-split {ℓ} : {A : Type ℓ} (o : Order) → (o ≡ Less → A) → (o ≡ Same → A) → (o ≡ More → A) → A
@@ -94,6 +96,10 @@ less-trans (a ∷ x) (b ∷ y) (c ∷ z) p q = go (less-trans x y z) (view a b x
 pub less-irrefl : (x : List ℕ) → orderOf x x ≡ Less → ⊥
 less-irrefl x e = less-same (sym e ∙ eq-same x)
 
+-- equal keys are the same
+pub unlike : (x y : List ℕ) → isSame (orderOf x y) ≡ false → x ≡ y → ⊥
+unlike x y h e = true≢false (sym (ap isSame (subst (λ z. orderOf x z ≡ Same) e (eq-same x))) ∙ h)
+
 -- which order a test says
 pub is-less : (o : Order) → isLess o ≡ true → o ≡ Less
 is-less Less e = refl
@@ -104,28 +110,73 @@ is-less More e = absurd (true≢false (sym e))
 pub less-not-same : (x y : List ℕ) → orderOf x y ≡ Less → isSame (orderOf x y) ≡ false
 less-not-same x y h = rw h
 
--- a walk along two keys that comes to place i
-order-step : (x y : List ℕ) (i : ℕ) → i < length x → i < length y
-    → orderOf (drop i x) (drop i y) ≡ pick (ltb (getD x i 0) (getD y i 0)) Less (pick (ltb (getD y i 0) (getD x i 0)) More (orderOf (drop (i + 1) x) (drop (i + 1) y)))
-unfolding orderOf
-order-step x y i h g = ap₂ orderOf (drop-cons x i 0 h) (drop-cons y i 0 g) ∙ rw (add-one i)
+-- two numbers decide how keys stand, or leave it to what follows them
+unfoldable pub decided : ℕ → ℕ → Order → Order
+decided v w rest = pick (ltb v w) Less (pick (ltb w v) More rest)
 
-module _ (x y : List ℕ) (i : ℕ) (e : length x ≡ length y) where
-  pub order-less : i < length x → getD x i 0 < getD y i 0 → orderOf (drop i x) (drop i y) ≡ Less
-  order-less h lt = order-step x y i h (omega arith) ∙ rw (lt-ltb _ _ lt)
+module _ {v w : ℕ} (rest : Order) where
+  pub decided-less : v < w → decided v w rest ≡ Less
+  unfolding decided
+  decided-less lt = rw (lt-ltb v w lt)
 
-  pub order-more : i < length x → getD y i 0 < getD x i 0 → orderOf (drop i x) (drop i y) ≡ More
-  order-more h lt =
-      order-step x y i h (omega arith) ∙ rw (le-ltb (getD x i 0) (getD y i 0) (omega arith), lt-ltb (getD y i 0) (getD x i 0) lt)
+  pub decided-more : w < v → decided v w rest ≡ More
+  unfolding decided
+  decided-more gt = rw (le-ltb v w (omega arith), lt-ltb w v gt)
 
-  pub order-next : i < length x → getD y i 0 ≤ getD x i 0 → getD x i 0 ≤ getD y i 0
-      → orderOf (drop i x) (drop i y) ≡ orderOf (drop (i + 1) x) (drop (i + 1) y)
-  order-next h le ge =
-      order-step x y i h (omega arith) ∙ rw (le-ltb (getD x i 0) (getD y i 0) le, le-ltb (getD y i 0) (getD x i 0) ge)
+  pub decided-next : w ≤ v → v ≤ w → decided v w rest ≡ rest
+  unfolding decided
+  decided-next le ge = rw (le-ltb v w le, le-ltb w v ge)
 
-  pub order-end : length x ≤ i → orderOf (drop i x) (drop i y) ≡ Same
+-- numbers with a byte behind each decide as the numbers and then the bytes do
+decided-digit : (v w a b : ℕ) (rest : Order) → a < 256 → b < 256 → decided v w (decided a b rest) ≡ decided (256 * v + a) (256 * w + b) rest
+decided-digit v w a b rest h g =
+    order-cases v w
+    (λ lt. decided-less _ lt ∙ sym (decided-less _ (omega arith)))
+    (λ eq. decided-next _ (omega arith) (omega arith) ∙ order-cases a b
+    (λ lt. decided-less _ lt ∙ sym (decided-less _ (omega arith)))
+    (λ e. decided-next _ (omega arith) (omega arith) ∙ sym (decided-next _ (omega arith) (omega arith)))
+    (λ gt. decided-more _ gt ∙ sym (decided-more _ (omega arith))))
+    (λ gt. decided-more _ gt ∙ sym (decided-more _ (omega arith)))
+
+-- the first k bytes from j on as a number, the first the highest
+unfoldable bytesUp : List ℕ → ℕ → ℕ → ℕ
+bytesUp s j zero = 0
+bytesUp s j (suc k) = 256 * bytesUp s j k + getD s (j + k) 0
+
+word-up : (s : List ℕ) (j : ℕ) → wordOf s j ≡ bytesUp s j 6
+unfolding bytesUp
+word-up s j = simp (add-zero) (omega arith)
+
+-- a walk along two keys of one length that comes to place j: the bytes there decide, the numbers of the next k bytes do, or there is no byte left
+module _ (x y : List ℕ) (e : length x ≡ length y) where
+  pub byte-step : (j : ℕ) → j < length x
+      → orderOf (drop j x) (drop j y) ≡ decided (getD x j 0) (getD y j 0) (orderOf (drop (j + 1) x) (drop (j + 1) y))
+  unfolding orderOf decided
+  byte-step j h = ap₂ orderOf (drop-cons x j 0 h) (drop-cons y j 0 (omega arith)) ∙ rw (add-one j)
+
+  pub byte-end : (j : ℕ) → length x ≤ j → orderOf (drop j x) (drop j y) ≡ Same
   unfolding orderOf
-  order-end h = ap₂ orderOf (drop-of-length-le x h) (drop-of-length-le y {i = i} (omega arith))
+  byte-end j h = ap₂ orderOf (drop-of-length-le x h) (drop-of-length-le y {i = j} (omega arith))
+
+  module _ (below : (j : ℕ) → getD x j 0 < 256) (below′ : (j : ℕ) → getD y j 0 < 256) where
+    bytes-step : (j k : ℕ) → j + k ≤ length x
+        → orderOf (drop j x) (drop j y) ≡ decided (bytesUp x j k) (bytesUp y j k) (orderOf (drop (j + k) x) (drop (j + k) y))
+    unfolding bytesUp decided
+    bytes-step j zero h = rw add-zero refl
+    bytes-step j (suc k) h =
+        let d : j + k + 1 ≡ j + suc k = omega arith in
+        bytes-step j k (omega arith) ∙ ap (decided (bytesUp x j k) (bytesUp y j k)) (byte-step (j + k) (omega arith))
+        ∙ decided-digit (bytesUp x j k) (bytesUp y j k) (getD x (j + k) 0) (getD y (j + k) 0) _ (below (j + k)) (below′ (j + k))
+        ∙ ap (λ i. decided (bytesUp x j (suc k)) (bytesUp y j (suc k)) (orderOf (drop i x) (drop i y))) d
+
+    -- the i-th words, as they were read
+    pub word-step : (i : ℕ) → i < length x / 6 → {v w : ℕ} → v ≡ wordOf x (6 * i) → w ≡ wordOf y (6 * i)
+        → orderOf (drop (6 * i) x) (drop (6 * i) y) ≡ decided v w (orderOf (drop (6 * (i + 1)) x) (drop (6 * (i + 1)) y))
+    word-step i h {v} {w} p q =
+        let d : 6 * i + 6 ≡ 6 * (i + 1) = omega arith in
+        bytes-step (6 * i) 6 (omega arith)
+        ∙ ap₂ (λ a b. decided a b (orderOf (drop (6 * i + 6) x) (drop (6 * i + 6) y))) (sym (p ∙ word-up x (6 * i))) (sym (q ∙ word-up y (6 * i)))
+        ∙ ap (λ k. decided v w (orderOf (drop k x) (drop k y))) d
 
 -- the order that was found of keys that were read
 pub order-told : {x x′ y y′ : List ℕ} {o : Order} → x ≡ x′ → y ≡ y′ → o ≡ orderOf x y → orderOf x′ y′ ≡ o

@@ -12,10 +12,11 @@ use lib.ListN.{length, drop, length-drop}
 use lib.Seq.{length-take-le, drop-drop, getD-drop}
 use borrow.Author.Tests.{eq-eqb, ne-eqb}
 use Rattle.ground.specs.Choice.{pick}
-use Rattle.table.specs.declared.Order.the-variants.{Less, Same}
+use Rattle.ground.proofs.ChoiceLaws.{less-cases}
+use Rattle.table.specs.declared.Order.the-variants.{Less, Same, More}
 use Rattle.table.specs.Order.{orderOf, isSame, isLess}
-use Rattle.table.proofs.OrderLaws.{order-split, same-eq, eq-same, less-trans, is-less, less-not-same}
-use Rattle.table.specs.Inner.{EntryThere}
+use Rattle.table.proofs.OrderLaws.{order-split, same-eq, eq-same, more-flip, less-trans, less-irrefl, is-less, less-not-same}
+use Rattle.table.specs.Inner.{KeyLength, EntryThere}
 use Rattle.table.specs.Table.{Entry, numbered, entryCount, firstEntries, entriesOf, numberFor, keysRise, stateNumber, wellFormed}
 use Rattle.table.specs.Entries.{entryKey, entryNumber, Rising}
 
@@ -34,6 +35,10 @@ there-fits {m} {i} {t} h = fits m i t (h .there)
 
 pub there-long : {m i : ℕ} {t s : List ℕ} → EntryThere m t i → s ≡ entryKey m t i → length s ≡ m
 there-long {m} {i} {t} h e = ap length e ∙ length-key m i t (h .there)
+
+-- and that its key can be compared with one of its length
+pub comparable : {m i n : ℕ} {t s : List ℕ} → KeyLength m → EntryThere m t i → n ≡ m → s ≡ entryKey m t i → (length s ≡ n) × (length s % 6 ≡ 0)
+comparable k h long e = let l = there-long h e in (l ∙ sym long, ap (λ (n : ℕ). n % 6) l ∙ k .words)
 
 -- there are no more entries than bytes
 pub entries-most : (m : ℕ) (t : List ℕ) → entryCount m t ≤ length t
@@ -104,28 +109,6 @@ unfolding wellFormed
 form-from m t =
     both-pick (eqb (length t % (m + 1)) 0) (keysRise (entriesOf m t))
     ∙ ap (λ (b : Bool). pick (eqb (length t % (m + 1)) 0) b false) (rise-all m t (entryCount m t))
-
--- a lookup that comes to entry i of n
-module _ (k : ℕ → List ℕ) (v : ℕ → ℕ) (s : List ℕ) (d i n : ℕ) where
-  look-step : i < n → lookFrom k v s d i (n - i) ≡ pick (isSame (orderOf (k i) s)) (v i) (lookFrom k v s d (i + 1) (n - (i + 1)))
-  unfolding lookFrom
-  look-step lt =
-      let e : n - i ≡ suc (n - (i + 1)) = omega arith in
-      ap (lookFrom k v s d i) e ∙ ap (λ (j : ℕ). pick (isSame (orderOf (k i) s)) (v i) (lookFrom k v s d j (n - (i + 1)))) (sym (add-one i))
-
-  pub look-here : i < n → isSame (orderOf (k i) s) ≡ true → lookFrom k v s d i (n - i) ≡ v i
-  look-here lt e = look-step lt ∙ rw e
-
-  pub look-next : i < n → isSame (orderOf (k i) s) ≡ false → lookFrom k v s d i (n - i) ≡ lookFrom k v s d (i + 1) (n - (i + 1))
-  look-next lt e = look-step lt ∙ rw e
-
-  pub look-end : n ≤ i → lookFrom k v s d i (n - i) ≡ d
-  unfolding lookFrom
-  look-end le = let e : n - i ≡ 0 = omega arith in ap (lookFrom k v s d i) e
-
-pub look-all : (m : ℕ) (t : List ℕ) (depth : ℕ) (s : List ℕ)
-    → stateNumber m t depth s ≡ lookFrom (entryKey m t) (entryNumber m t) s (depth + 1) 0 (entryCount m t - 0)
-look-all m t depth s = number-look m t depth s ∙ rw sub-zero
 
 -- a test of rising keys that comes to key i of n and the next
 module _ (k : ℕ → List ℕ) (i n : ℕ) where
@@ -218,6 +201,38 @@ module _ (k : ℕ → List ℕ) (v : ℕ → ℕ) (s : List ℕ) (n : ℕ) (up :
       look-hit k v s d 0 n j (omega arith) (omega arith) (subst (λ (x : List ℕ). orderOf (k j) x ≡ Same) e (eq-same (k j)))
       (λ a p q. less-not-same (k a) s (subst (λ (z : List ℕ). orderOf (k a) z ≡ Less) e (up a j q lt)))
 
+-- halving: of n keys every one before low is less than s, and s is less than every one behind the `span` keys from there on
+pub record Halved (k : ℕ → List ℕ) (n : ℕ) (s : List ℕ) (low span : ℕ) : Type 0 where
+  pub most : low + span ≤ n
+  pub before : (i : ℕ) → i < low → orderOf (k i) s ≡ Less
+  pub after : (i : ℕ) → low + span ≤ i → i < n → orderOf s (k i) ≡ Less
+
+pub halved-all : (k : ℕ → List ℕ) (n : ℕ) (s : List ℕ) → Halved k n s 0 n
+halved-all k n s = record { most = omega arith; before = λ i lt. absurd (omega arith); after = λ i ge lt. absurd (omega arith) }
+
+module _ {k : ℕ → List ℕ} {n : ℕ} {s : List ℕ} {low span : ℕ} (up : Rising k n) (h : Halved k n s low span) (half : ℕ) (lt : half < span) where
+  pub half-less : orderOf (k (low + half)) s ≡ Less → Halved k n s (low + half + 1) (span - half - 1)
+  unfolding Rising
+  half-less e =
+      record {
+        most = omega (arith, h .most);
+        before = λ i g.
+            ⊎-elim (λ (q : i ≡ low + half). subst (λ (a : ℕ). orderOf (k a) s ≡ Less) (sym q) e)
+            (λ (q : i < low + half). less-trans (k i) (k (low + half)) s (up i (low + half) q (omega (arith, h .most))) e) (eq-or-lt-of-le (omega arith));
+        after = λ i g. h .after i (omega arith);
+      }
+
+  pub half-more : orderOf (k (low + half)) s ≡ More → Halved k n s low half
+  unfolding Rising
+  half-more e =
+      record {
+        most = omega (arith, h .most);
+        before = h .before;
+        after = λ i g l.
+            ⊎-elim (λ (q : low + half ≡ i). subst (λ (a : ℕ). orderOf s (k a) ≡ Less) q (more-flip (k (low + half)) s e))
+            (λ (q : low + half < i). less-trans s (k (low + half)) (k i) (more-flip (k (low + half)) s e) (up (low + half) i q l)) (eq-or-lt-of-le g);
+      }
+
 -- a lookup finds the key, or gives what it gives where there is none
 pub look-cases {ℓ} : {A : Type ℓ} (k : ℕ → List ℕ) (v : ℕ → ℕ) (s : List ℕ) (d i n : ℕ) → ((j : ℕ) → i ≤ j → j < i + n → k j ≡ s → A)
     → (lookFrom k v s d i n ≡ d → A) → A
@@ -230,3 +245,13 @@ look-cases {A = A} k v s d i (suc n) f g =
     (λ e. miss (ap isSame e))
     (λ e. f i (omega arith) (omega arith) (same-eq (k i) s e))
     (λ e. miss (ap isSame e))
+
+-- nothing is left to halve: the key is not there
+pub look-halved : {k : ℕ → List ℕ} {n : ℕ} {s : List ℕ} {low span : ℕ} (v : ℕ → ℕ) (d : ℕ) → Halved k n s low span → span ≤ 0
+    → lookFrom k v s d 0 n ≡ d
+look-halved {k} {n} {s} {low} v d h z =
+    look-cases k v s d 0 n
+    (λ j g l e. absurd (less-cases j low
+    (λ q. less-irrefl s (subst (λ x. orderOf x s ≡ Less) e (h .before j q)))
+    (λ q. less-irrefl s (subst (λ x. orderOf s x ≡ Less) e (h .after j (omega arith) (omega arith))))))
+    (λ e. e)

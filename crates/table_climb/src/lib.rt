@@ -4,8 +4,9 @@ ghost use mathlib.Core.Bool.{true};
 ghost use Prim.Native.Nat.{_≤_, _<_};
 ghost use lib.ListN.{length};
 ghost use Rattle.table.specs.Table.{entryCount};
+ghost use Rattle.table.specs.Inner.{KeyLength};
 ghost use Rattle.key_index.specs.InnerIndex.{runLength, classes, Empty};
-ghost use Rattle.table_level.specs.Inner.{CubeKeys, Tracking};
+ghost use Rattle.table_level.specs.Inner.{Tracking};
 ghost use Rattle.table_climb.specs.Inner.{Staged, BuildReady, RiseTold, Raised};
 use ground::codes::MoveCode;
 use key_index::CLASSES;
@@ -60,7 +61,7 @@ fn guess(stage: Stage, moves: usize, slots: usize, fits: usize) -> usize
 
 // Files the first `count` entries of all classes in an empty index, if their numbers fit its slots.
 fn file_all(table: &[u8], m: usize, count: usize, index: &mut [u32], all: Classes) -> bool
-    requires { ⌜ CubeKeys m × (count ≤ entryCount m (now table)) × Empty (now index) ⌝ }
+    requires { ⌜ KeyLength m × (count ≤ entryCount m (now table)) × Empty (now index) ⌝ }
     ensures { λ r. ⌜ (r ≡ true → Tracking m count (now (table .entry)) (now (index .exit)) all) ⌝ }
 {
     if 4294967295 <= table.len() / (m + 1) {

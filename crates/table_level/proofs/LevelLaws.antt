@@ -15,7 +15,7 @@ use Rattle.ground.proofs.ChoiceLaws.{bool-cases, less-cases}
 use Rattle.ground.proofs.ListLaws.{member-at, member-place}
 use Rattle.generic_cube.specs.Sizes.{stickers}
 use Rattle.table.specs.Entries.{entryKey, entryNumber, Present}
-use Rattle.table.specs.Inner.{entryAt, withEntry}
+use Rattle.table.specs.Inner.{KeyLength, entryAt, withEntry}
 use Rattle.table.specs.Table.{entryCount}
 use Rattle.table.proofs.TableLaws.{fits}
 use Rattle.table.proofs.EntriesLaws.{entry-key, entry-number, written-long, written-here, written-past, written-elsewhere}
@@ -23,12 +23,12 @@ use Rattle.key_index.specs.declared.Classes.{Classes}
 use Rattle.key_index.specs.InnerIndex.{runLength, classes, classOf, Indexed, Empty}
 use Rattle.key_index.specs.Inner.{Filing}
 use Rattle.key_index.proofs.IndexLaws.{tags-differ, class-most}
+use Rattle.search_theory.specs.CubeSearch.{movedBy}
 use Rattle.table_level.specs.declared.Stretch.{Stretch}
 use Rattle.table_level.specs.declared.Stretch.the-variants.{Went, Crowded, Full}
 use Rattle.table_level.specs.declared.Stage.{Stage}
 use Rattle.table_level.specs.declared.Growth.the-variants.{To, Over}
-use Rattle.search_theory.specs.CubeSearch.{movedBy}
-use Rattle.table_level.specs.Inner.{entryOf, Stayed, Widened, Outgrown, Tracking, CubeKeys, MovesTurn, Passing, Refiled, Going, Stretched, Entered, LeadsTo, Fanned, startAt, Due, SourcesThere, SourceVisited, Swept, Sourced, Source, Covered, Levelled, outgrownStage}
+use Rattle.table_level.specs.Inner.{entryOf, Stayed, Widened, Outgrown, Tracking, MovesTurn, Passing, Refiled, Going, Stretched, Entered, LeadsTo, Fanned, startAt, Due, SourcesThere, SourceVisited, Swept, Sourced, Source, Covered, Levelled, outgrownStage}
 
 -- what holds of the places from `from` up to i, and of i, holds up to i + 1
 pub up-to : (P : ℕ → Type 0) (from i : ℕ) → ((j : ℕ) → from ≤ j → j < i → P j) → P i → (j : ℕ) → from ≤ j → j < i + 1 → P j
@@ -216,8 +216,8 @@ stretched-pass w f s =
     }
 
 -- filing before a pass: plainly there is nothing to file
-pub passing-files : {m count size : ℕ} {t : List ℕ} {k : Classes} → CubeKeys m → Passing m count t size k → k .plain ≡ false → Filing m count t
-passing-files w p e = record { reading = record { short = w .short; sixes = w .sixes; room = p .room }; few = omega (arith, p .room, p .few e) }
+pub passing-files : {m count size : ℕ} {t : List ℕ} {k : Classes} → KeyLength m → Passing m count t size k → k .plain ≡ false → Filing m count t
+passing-files w p e = record { reading = record { whole = w; room = p .room }; few = omega (arith, p .room, p .few e) }
 
 pub emptied : (index : List ℕ) {index′ : List ℕ} → index′ ≡ replicate (length index) 0 → runLength < length index → length index < 4294967296 → Empty index′
 emptied index {index′} e h g =

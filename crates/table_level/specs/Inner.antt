@@ -1,5 +1,5 @@
 -- Inner contracts of a level of the builder. Entries stand in the order in which they were found; a level adds to their end.
-use Prim.Native.Nat.{ℕ, _+_, _*_, _/_, _%_, _≤_, _<_}
+use Prim.Native.Nat.{ℕ, _+_, _*_, _/_, _≤_, _<_}
 use mathlib.Core.Path.{_≡_}
 use mathlib.Core.Bool.{Bool, true, false}
 use mathlib.Core.List.{List, [], _∷_, _++_, List·Memᴰ}
@@ -11,12 +11,12 @@ use Rattle.table.specs.Inner.{Distinct}
 use Rattle.table.specs.Table.{entryCount}
 use Rattle.key_index.specs.declared.Classes.{Classes}
 use Rattle.key_index.specs.InnerIndex.{runLength, classes, OfClasses, Indexed}
+use Rattle.search_theory.specs.CubeSearch.{movedBy}
 use Rattle.table_level.specs.declared.Stretch.{Stretch}
 use Rattle.table_level.specs.declared.Stretch.the-variants.{Went, Crowded, Full}
 use Rattle.table_level.specs.declared.Growth.{Growth}
 use Rattle.table_level.specs.declared.Growth.the-variants.{To, Over}
 use Rattle.table_level.specs.declared.Stage.{Stage}
-use Rattle.search_theory.specs.CubeSearch.{movedBy}
 
 -- the bytes of an entry
 abbrev pub entryOf : List ℕ → ℕ → List ℕ
@@ -61,11 +61,6 @@ pub record Stretched (m e : ℕ) (New : List ℕ → Type 0) (t : List ℕ) (cou
   pub went : (c : ℕ) → r ≡ Went c → Going m e New t count k Done t′ index′ c
   pub crowded : (c : ℕ) → r ≡ Crowded c → Widened m e New t count t′ c × (k .plain ≡ false)
   pub full : r ≡ Full → Outgrown m e New t count t′
-
--- keys of cubes: whole words of six bytes
-pub record CubeKeys (m : ℕ) : Type 0 where
-  pub short : m < 1000
-  pub sixes : m % 6 ≡ 0
 
 -- a state of the classes is there
 abbrev pub Entered : ℕ → Classes → List ℕ → List ℕ → ℕ → Type 0

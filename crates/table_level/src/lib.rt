@@ -6,10 +6,10 @@ ghost use Prim.Native.Nat.{_+_, _*_, _≤_, _<_};
 ghost use lib.ListN.{length, getD};
 ghost use Rattle.generic_cube.specs.Sizes.{stickers};
 ghost use Rattle.table.specs.Entries.{entryKey};
-ghost use Rattle.table.specs.Inner.{withEntry};
+ghost use Rattle.table.specs.Inner.{KeyLength, withEntry};
 ghost use Rattle.key_index.specs.InnerIndex.{classes};
 ghost use Rattle.search_theory.specs.CubeSearch.{movedBy};
-ghost use Rattle.table_level.specs.Inner.{entryOf, Tracking, CubeKeys, Entered, Stretched, MovesTurn, LeadsTo, Fanned, Due, SourcesThere, SourceVisited, Source, Swept, Passing, Refiled, Climbing, Levelled, nextStage, outgrownStage};
+ghost use Rattle.table_level.specs.Inner.{entryOf, Tracking, Entered, Stretched, MovesTurn, LeadsTo, Fanned, Due, SourcesThere, SourceVisited, Source, Swept, Passing, Refiled, Climbing, Levelled, nextStage, outgrownStage};
 use generic_cube::Code;
 use ground::codes::MoveCode;
 use key_index::CLASSES;
@@ -93,7 +93,7 @@ fn enter(
     index: &mut [u32],
     classes: Classes,
 ) -> Stretch
-    requires { ⌜ CubeKeys m × (length (now key) ≡ m) × Tracking m count (now table) (now index) classes ⌝ }
+    requires { ⌜ KeyLength m × (length (now key) ≡ m) × Tracking m count (now table) (now index) classes ⌝ }
     ensures { λ r. ⌜ Stretched m number (λ s. s ≡ now (key .entry)) (now (table .entry)) count classes (Entered m classes (now (key .entry))) (now (table .exit)) (now (index .exit)) r ⌝ }
 {
     let found = key_index::find(&table[..], m, count, key, &index[..], classes);
@@ -234,7 +234,7 @@ pub fn sweep(
 
 // Files the first `count` entries of the classes anew, unless plainly; or a run was full.
 fn refile(table: &[u8], m: usize, count: usize, index: &mut [u32], classes: Classes) -> bool
-    requires { ⌜ CubeKeys m × Passing m count (now table) (length (now index)) classes ⌝ }
+    requires { ⌜ KeyLength m × Passing m count (now table) (length (now index)) classes ⌝ }
     ensures { λ r. ⌜ Refiled m count (now (table .entry)) (now (index .exit)) classes r ⌝ }
 {
     if classes.plain {

@@ -3,10 +3,11 @@ use Prim.Native.Nat.{_≤_}
 use mathlib.Core.Path.{_≡_, sym, ap, _∙_}
 use mathlib.Core.Bool.{false, not}
 use borrow.Author.Tests.{lt-ltb, le-ltb}
+use Rattle.ground.specs.Refusals.{lowest}
 use Rattle.generic_cube.specs.Sizes.{stickers}
 use Rattle.generic_cube.proofs.CodeLaws.{small-cube}
-use Rattle.ground.specs.Refusals.{lowest}
 use Rattle.table.specs.Table.{wellFormed}
+use Rattle.search_theory.proofs.KeyLaws.{cube-key}
 use Rattle.ida_star.specs.Inner.{lateRefusal}
 use Rattle.ida_star.proofs.IdaStarLaws.{levels-small}
 use native.Mathlib.Omega.{arith}
@@ -27,7 +28,7 @@ mul-s-2 : tie.Need-mul-s-2
 mul-s-2 c = omega (arith, small (c .before))
 
 is-well-formed-requires : tie.Need-is-well-formed-requires
-is-well-formed-requires c κs = omega (arith, small (c .before))
+is-well-formed-requires c κs = cube-key (c .before .pre .size)
 
 returns : tie.Need-returns
 unfolding lateRefusal lowest

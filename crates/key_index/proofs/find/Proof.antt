@@ -38,7 +38,7 @@ probe-requires : tie.Need-probe-requires
 probe-requires c κs =
     let a = c .before .before .before .before .before .before .before .before .pre in
     let x = a .filed (c .before .if2 .left) in
-    record { short = a .reading .short; sixes = a .reading .sixes; long = a .long; fits = c .place .ensures .1; within = λ j. omega (arith, x .within j, a .reading .room) }
+    record { whole = a .reading .whole; long = a .long; fits = c .place .ensures .1; within = λ j. omega (arith, x .within j, a .reading .room) }
 
 returns-4 : tie.Need-returns-4
 returns-4 c =

@@ -3,9 +3,10 @@ use borrow.Author.Needs.{needs}
 use native.Mathlib.Omega.{arith}
 use Prim.Native.Nat.{_+_, _-_, _≤_}
 use mathlib.Core.Path.{_≡_, refl, sym, _∙_}
+use Rattle.table.proofs.TableLaws.{comparable}
 use Rattle.key_index.specs.InnerIndex.{runLength}
 use Rattle.key_index.specs.Inner.{Passed}
-use Rattle.key_index.proofs.IndexLaws.{comparable, slot-held, Full, probe-more, probed-here, probed-gap, probed-lost}
+use Rattle.key_index.proofs.IndexLaws.{slot-held, Full, probe-more, probed-here, probed-gap, probed-lost}
 use Rattle.key_index.proofs.probe.Statement.{statement}
 use Rattle.key_index.proofs.probe.Tie as tie
 
@@ -42,7 +43,7 @@ key-at-requires : tie.Need-key-at-requires Inv-loop μ-loop
 key-at-requires c κs = slot-held (c .before .before .before .before .before .before .before .pre) _ (c .if1 .left)
 
 same-requires : tie.Need-same-requires Inv-loop μ-loop
-same-requires c κs = comparable (slot-held (c .before .before .before .before .before .before .before .before .pre) _ (c .before .if1 .left)) (c .before .before .before .before .before .before .before .before .pre .sixes) (c .before .before .before .before .before .before .before .before .pre .long) (c .key-at .ensures)
+same-requires c κs = comparable (c .before .before .before .before .before .before .before .before .pre .whole) (slot-held (c .before .before .before .before .before .before .before .before .pre) _ (c .before .if1 .left)) (c .before .before .before .before .before .before .before .before .pre .long) (c .key-at .ensures)
 
 returns-2 : tie.Need-returns-2 Inv-loop μ-loop
 returns-2 c =

@@ -5,8 +5,8 @@ use Prim.Native.Nat.{ℕ, _-_, _≤_, _<_}
 use mathlib.Core.Path.{_≡_, sym, _∙_}
 use borrow.Author.Count.{below-more}
 use Rattle.table.specs.Entries.{entryKey}
-use Rattle.table.proofs.TableLaws.{entries-most}
-use Rattle.key_index.proofs.IndexLaws.{comparable, told-yes, told-no}
+use Rattle.table.proofs.TableLaws.{comparable, entries-most}
+use Rattle.key_index.proofs.IndexLaws.{told-yes, told-no}
 use Rattle.key_index.proofs.scan.Statement.{statement}
 use Rattle.key_index.proofs.scan.Tie as tie
 
@@ -23,7 +23,7 @@ key-at-requires : tie.Need-key-at-requires Inv-loop μ-loop
 key-at-requires c κs = search needs
 
 same-requires : tie.Need-same-requires Inv-loop μ-loop
-same-requires c κs = comparable (search needs) (c .before .before .before .before .before .pre .reading .sixes) (c .before .before .before .before .before .pre .long) (c .key-at .ensures)
+same-requires c κs = comparable (c .before .before .before .before .before .pre .reading .whole) (search needs) (c .before .before .before .before .before .pre .long) (c .key-at .ensures)
 
 returns : tie.Need-returns Inv-loop μ-loop
 returns c = told-yes (c .before .before .before .before .loop .i, c .before .before .before .loop-test .taken, sym (c .before .before .key-at .ensures) ∙ c .before .same .ensures .yes (c .if1 .taken))

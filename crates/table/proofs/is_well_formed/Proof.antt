@@ -6,7 +6,7 @@ use Rattle.table.specs.Order.{orderOf, isLess}
 use Rattle.table.proofs.OrderLaws.{order-told}
 use Rattle.table.specs.Entries.{entryKey}
 use Rattle.table.specs.Table.{entryCount, wellFormed}
-use Rattle.table.proofs.TableLaws.{risesFrom, length-key, entries-most, form-cut, form-rises, form-empty, rise-next, rise-fails, rise-end}
+use Rattle.table.proofs.TableLaws.{risesFrom, length-key, comparable, entries-most, form-cut, form-rises, form-empty, rise-next, rise-fails, rise-end}
 use native.Mathlib.Omega.{arith}
 use borrow.Author.Needs.{needs}
 use Rattle.table.proofs.is_well_formed.Statement.{statement}
@@ -76,10 +76,10 @@ key-at-requires-2 c κs = search needs
 
 compare-requires : tie.Need-compare-requires Inv-loop μ-loop
 compare-requires c κs =
-    let a = start-of-key-at2 c .args in
+    let a = start-of-key-at2 c in
     let l = c .before .before .before .loop in
-    ap length (c .before .key-at .ensures) ∙ length-key (a .m) (l .i) (a .table .now) (omega arith)
-    ∙ sym (ap length (c .key-at2 .ensures) ∙ length-key (a .m) (l .i + 1) (a .table .now) (omega arith))
+    comparable (a .pre) (record { short = a .pre .short; there = omega (arith, l .inv .0) })
+    (ap length (c .key-at2 .ensures) ∙ length-key (a .args .m) (l .i + 1) (a .args .table .now) (omega arith)) (c .before .key-at .ensures)
 
 is-less-requires : tie.Need-is-less-requires Inv-loop μ-loop
 is-less-requires c κs = search needs

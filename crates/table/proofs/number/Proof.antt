@@ -1,91 +1,127 @@
--- `number`: the number of the whole table is that of the entries from i on.
-use Prim.Native.Nat.{_+_, _-_, _≤_}
-use mathlib.Core.Path.{_≡_, refl, sym, ap, _∙_}
-use Rattle.table.specs.Order.{orderOf, isSame}
-use Rattle.table.proofs.OrderLaws.{order-told}
-use Rattle.table.specs.Entries.{entryKey, entryNumber}
-use Rattle.table.specs.Table.{entryCount, stateNumber}
-use Rattle.table.proofs.TableLaws.{lookFrom, there-long, entries-most, look-all, look-here, look-next, look-end}
-use Rattle.table.proofs.Tags.{tag-same, tag-not-same}
+-- `number`: keys before low are less than the key, and it is less than those behind the span.
+use Prim.Native.Nat.{ℕ, _+_, _/_, _≤_}
+use mathlib.Core.Path.{_≡_, refl, sym, _∙_}
 use native.Mathlib.Omega.{arith}
+use lib.ListN.{length}
 use borrow.Author.Needs.{needs}
+use Rattle.table.specs.Order.{orderOf}
+use Rattle.table.proofs.OrderLaws.{order-told, same-eq}
+use Rattle.table.specs.Entries.{entryKey, Rising}
+use Rattle.table.specs.Table.{entryCount}
+use Rattle.table.proofs.TableLaws.{comparable, entries-most, formed-rising, number-look, look-found, Halved, halved-all, half-less, half-more, look-halved}
 use Rattle.table.proofs.number.Statement.{statement}
 use Rattle.table.proofs.number.Tie as tie
 
 abbrev Inv-loop : tie.InvT-loop
-Inv-loop table m depth key count i₀ i =
-    (i ≤ count)
-    × (count ≡ entryCount m table)
-    × (stateNumber m table depth key ≡ lookFrom (entryKey m table) (entryNumber m table) key (depth + 1) i (count - i))
+Inv-loop table m depth key low₀ span₀ low span = Halved (entryKey m table) (entryCount m table) key low span
 
 abbrev μ-loop : tie.MeasureT-loop
-μ-loop table m depth key count i₀ i = count - i
+μ-loop table m depth key low₀ span₀ low span = span
 
 -- places of the code
-abbrev loop-of-number-at : tie.After-number-at Inv-loop μ-loop → tie.At-loop Inv-loop μ-loop
-loop-of-number-at c = c .before .before .before .before .before .before
+abbrev loop-of-compare : tie.After-compare Inv-loop μ-loop → tie.At-loop Inv-loop μ-loop
+loop-of-compare c = c .before .before .before
 
-abbrev start-of-compare : tie.After-compare Inv-loop μ-loop → tie.Start Inv-loop μ-loop
-start-of-compare c = c .before .before .before .before .before .before
+abbrev start-of-loop : tie.At-loop Inv-loop μ-loop → tie.Start Inv-loop μ-loop
+start-of-loop c = c .before .before .before
 
-abbrev start-of-arm2 : tie.At-match-keys2 Inv-loop μ-loop → tie.Start Inv-loop μ-loop
-start-of-arm2 c = start-of-compare (c .before)
+abbrev half-of : tie.At-loop Inv-loop μ-loop → ℕ
+half-of c = c .loop .span / 2
 
--- the order of entry i's key and the one that is looked up
+-- the keys rise, and there are no more of them than bytes
+rising : (c : tie.At-loop Inv-loop μ-loop)
+    → Rising (entryKey (start-of-loop c .args .m) (start-of-loop c .args .table .now)) (entryCount (start-of-loop c .args .m) (start-of-loop c .args .table .now))
+rising c = formed-rising _ _ (start-of-loop c .pre .formed)
+
+few : (c : tie.At-loop Inv-loop μ-loop) → c .loop .low + c .loop .span ≤ length (start-of-loop c .args .table .now)
+few c =
+    let a = start-of-loop c .args in
+    omega (arith, c .loop .inv .most, entries-most (a .m) (a .table .now))
+
+-- the order of the middle key and the one that is looked up
 compared : (c : tie.After-compare Inv-loop μ-loop)
-    → orderOf (entryKey (start-of-compare c .args .m) (start-of-compare c .args .table .now) (c .before .before .before .loop .i)) (start-of-compare c .args .key .now)
+    → orderOf (entryKey (start-of-loop (loop-of-compare c) .args .m) (start-of-loop (loop-of-compare c) .args .table .now) (loop-of-compare c .loop .low + half-of (loop-of-compare c))) (start-of-loop (loop-of-compare c) .args .key .now)
     ≡ c .compare .result
 compared c = order-told (c .before .key-at .ensures) refl (c .compare .ensures)
 
-add-count : tie.Need-add-count Inv-loop μ-loop
-add-count c = search needs
+add-span : tie.Need-add-span Inv-loop μ-loop
+add-span c = search needs
 
-div-count : tie.Need-div-count Inv-loop μ-loop
-div-count c = search needs
+div-span : tie.Need-div-span Inv-loop μ-loop
+div-span c = search needs
 
 loop-holds : tie.Need-loop-holds Inv-loop μ-loop
-loop-holds c = (omega arith, refl, look-all _ _ _ _)
+loop-holds c = halved-all _ _ _
+
+add-mid : tie.Need-add-mid Inv-loop μ-loop
+add-mid c = omega (arith, few (c .before))
 
 key-at-requires : tie.Need-key-at-requires Inv-loop μ-loop
-key-at-requires c κs = search needs
+key-at-requires c κs = record { short = start-of-loop (c .before) .pre .whole .short; there = omega (arith, c .before .loop .inv .most) }
 
 compare-requires : tie.Need-compare-requires Inv-loop μ-loop
-compare-requires c κs = there-long (search needs) (c .key-at .ensures) ∙ sym (c .before .before .before .before .before .pre .long)
+compare-requires c κs =
+    let l = c .before .before in
+    let p = start-of-loop l .pre in
+    comparable (p .whole) (record { short = p .whole .short; there = omega (arith, l .loop .inv .most) }) (p .long) (c .key-at .ensures)
 
 enum-told : tie.Need-enum-told Inv-loop μ-loop
 enum-told c = search needs
 
 number-at-requires : tie.Need-number-at-requires Inv-loop μ-loop
-number-at-requires c κs = search needs
+number-at-requires c κs =
+    let l = loop-of-compare (c .before .before) in
+    record { short = start-of-loop l .pre .whole .short; there = omega (arith, l .loop .inv .most) }
 
 cast-result : tie.Need-cast-result Inv-loop μ-loop
 cast-result c = search needs
 
 returns : tie.Need-returns Inv-loop μ-loop
 returns c =
-    let l = loop-of-number-at c .loop in
-    let o = compared (c .before .before .before) ∙ tag-same _ (c .before .before .match .keys1) in
-    c .number-at .ensures ∙ sym (l .inv .2 ∙ look-here _ _ _ _ (l .i) _ (c .before .before .before .before .before .loop-test .taken) (ap isSame o))
+    let d = c .before .before .before in
+    let l = loop-of-compare d in
+    let a = start-of-loop l .args in
+    c .number-at .ensures ∙ sym (number-look (a .m) (a .table .now) (a .depth) (a .key .now)
+    ∙ look-found _ _ _ _ (rising l) _ (l .loop .low + half-of l) (omega (arith, l .loop .inv .most)) (same-eq _ _ (compared d ∙ c .before .enum-told .given .1)))
 
-add-i : tie.Need-add-i Inv-loop μ-loop
-add-i c = omega (arith, entries-most (start-of-arm2 c .args .m) (start-of-arm2 c .args .table .now))
+enum-told-2 : tie.Need-enum-told-2 Inv-loop μ-loop
+enum-told-2 c = search needs
+
+add-low : tie.Need-add-low Inv-loop μ-loop
+add-low c = omega (arith, few (loop-of-compare (c .before .before)))
+
+sub-span : tie.Need-sub-span Inv-loop μ-loop
+sub-span c = omega arith
+
+sub-span-2 : tie.Need-sub-span-2 Inv-loop μ-loop
+sub-span-2 c = omega arith
 
 loop-less : tie.Need-loop-less Inv-loop μ-loop
 loop-less c = omega arith
 
 loop-again : tie.Need-loop-again Inv-loop μ-loop
 loop-again c =
-    let l = c .before .before .before .before .loop in
-    let o = ap isSame (compared (c .before)) ∙ tag-not-same (c .before .compare .result) (c .match .keys2) in
-    (omega arith, refl, l .inv .2 ∙ look-next _ _ _ _ (l .i) _ (c .before .before .before .loop-test .taken) o)
+    let l = loop-of-compare (c .before .before) in
+    half-less (rising l) (l .loop .inv) (half-of l) (omega arith) (compared (c .before .before) ∙ c .enum-told2 .given .1)
+
+enum-told-3 : tie.Need-enum-told-3 Inv-loop μ-loop
+enum-told-3 c = search needs
+
+loop-less-2 : tie.Need-loop-less-2 Inv-loop μ-loop
+loop-less-2 c = omega arith
+
+loop-again-2 : tie.Need-loop-again-2 Inv-loop μ-loop
+loop-again-2 c =
+    let l = loop-of-compare (c .before .before) in
+    half-more (rising l) (l .loop .inv) (half-of l) (omega arith) (compared (c .before .before) ∙ c .enum-told3 .given .1)
 
 add-result : tie.Need-add-result Inv-loop μ-loop
 add-result c = search needs
 
 returns-2 : tie.Need-returns-2 Inv-loop μ-loop
 returns-2 c =
-    let l = c .before .loop in
-    sym (l .inv .2 ∙ look-end _ _ _ _ (l .i) _ (c .loop-test .left))
+    let a = start-of-loop (c .before) .args in
+    sym (number-look (a .m) (a .table .now) (a .depth) (a .key .now) ∙ look-halved _ _ (c .before .loop .inv) (c .loop-test .left))
 
 pub number-spec : {M : Type 1} → statement M
 number-spec =
@@ -93,17 +129,24 @@ number-spec =
     (tie.spec
     Inv-loop
     μ-loop
-    add-count
-    div-count
+    add-span
+    div-span
     loop-holds
+    add-mid
     key-at-requires
     compare-requires
     enum-told
     number-at-requires
     cast-result
     returns
-    add-i
+    enum-told-2
+    add-low
+    sub-span
+    sub-span-2
     loop-less
     loop-again
+    enum-told-3
+    loop-less-2
+    loop-again-2
     add-result
     returns-2)

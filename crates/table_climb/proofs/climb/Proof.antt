@@ -6,10 +6,10 @@ use mathlib.Core.Path.{_≡_, refl, sym, ap, _∙_}
 use lib.ListN.{length}
 use borrow.Author.Tests.{not-false}
 use Rattle.generic_cube.specs.Sizes.{stickers}
-use Rattle.table_level.specs.declared.Stage.{Stage}
+use Rattle.search_theory.proofs.KeyLaws.{cube-key}
 use mathlib.Core.Bool.{false}
+use Rattle.table_level.specs.declared.Stage.{Stage}
 use Rattle.table_level.specs.Inner.{Tracking}
-use Rattle.table_level.proofs.SizeLaws.{cube-keys}
 use Rattle.table_level.proofs.LevelLaws.{tracking-at}
 use Rattle.table_climb.proofs.StageLaws.{staged-placed, risen-to, risen-over, Standing, stand-first, stand-pause, stand-crowded, stand-over, stand-level, stand-done, swept-all}
 use Rattle.table_climb.proofs.climb.Statement.{statement}
@@ -32,7 +32,7 @@ mul-file-all-2 : tie.Need-mul-file-all-2 Inv-loop μ-loop
 mul-file-all-2 c = search needs
 
 file-all-requires : tie.Need-file-all-requires Inv-loop μ-loop
-file-all-requires c κs = (cube-keys (c .before .before .before .before .before .before .before .pre .0 .turning .size), c .before .before .before .before .before .before .before .pre .1 .room, c .before .before .before .before .before .before .before .pre .2)
+file-all-requires c κs = (cube-key (c .before .before .before .before .before .before .before .pre .0 .turning .size), c .before .before .before .before .before .before .before .pre .1 .room, c .before .before .before .before .before .before .before .pre .2)
 
 outgrown-requires : tie.Need-outgrown-requires Inv-loop μ-loop
 outgrown-requires c κs = search needs

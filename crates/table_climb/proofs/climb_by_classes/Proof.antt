@@ -5,8 +5,8 @@ use Prim.Native.Nat.{_+_, _-_}
 use mathlib.Core.Path.{_≡_, refl, sym, ap, _∙_}
 use lib.ListN.{length}
 use Rattle.generic_cube.specs.Sizes.{stickers}
+use Rattle.search_theory.proofs.KeyLaws.{cube-key}
 use Rattle.table_level.specs.declared.Stage.{Stage}
-use Rattle.table_level.proofs.SizeLaws.{cube-keys}
 use Rattle.table_climb.proofs.StageLaws.{staged-placed, raised-to, raised-over, Standing, stand-first, stand-over, stand-level, stand-done}
 use Rattle.table_climb.proofs.climb_by_classes.Statement.{statement}
 use Rattle.table_climb.proofs.climb_by_classes.Tie as tie
@@ -30,7 +30,7 @@ mul-guess-2 : tie.Need-mul-guess-2 Inv-loop μ-loop
 mul-guess-2 c = search needs
 
 add-guess : tie.Need-add-guess Inv-loop μ-loop
-add-guess c = omega (arith, cube-keys (c .before .before .before .before .before .before .before .before .pre .0 .turning .size) .short)
+add-guess c = omega (arith, cube-key (c .before .before .before .before .before .before .before .before .pre .0 .turning .size) .short)
 
 div-guess : tie.Need-div-guess Inv-loop μ-loop
 div-guess c = search needs

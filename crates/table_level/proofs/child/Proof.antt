@@ -11,7 +11,7 @@ use Rattle.generic_cube.proofs.CodeLaws.{list-taken, list-reads}
 use Rattle.geometric_moves.specs.Turn.{moved}
 use Rattle.geometric_moves.proofs.MovedLaws.{length-moved}
 use Rattle.table.proofs.TableLaws.{length-key}
-use Rattle.table_level.proofs.SizeLaws.{cube-keys}
+use Rattle.search_theory.proofs.KeyLaws.{cube-key}
 use Rattle.table_level.proofs.LevelLaws.{child-entered}
 use borrow.Author.Needs.{needs}
 use Rattle.table_level.proofs.child.Statement.{statement}
@@ -50,7 +50,7 @@ returns c =
     absurd (list-reads (a .args .n) (a .args .moves .now) (a .pre .0 .good) (a .pre .3) (sym (c .enum-told .given .1) ∙ c .before .before .read-code .ensures))
 
 key-at-requires : tie.Need-key-at-requires
-key-at-requires c κs = let a = c .before .before .before .before .before .before .before .before .before .before .pre in record { short = cube-keys (a .0 .size) .short; there = omega (arith, a .1 .room, a .2) }
+key-at-requires c κs = let a = c .before .before .before .before .before .before .before .before .before .before .pre in record { short = cube-key (a .0 .size) .short; there = omega (arith, a .1 .room, a .2) }
 
 compute-permutation-requires : tie.Need-compute-permutation-requires
 compute-permutation-requires c κs =
@@ -65,7 +65,7 @@ compute-permutation-requires c κs =
 enter-requires : tie.Need-enter-requires
 enter-requires c κs =
     let a = c .before .before .before .before .before .before .before .before .before .before .before .before .before .before .before .before .before .before .pre in (
-      cube-keys (a .0 .size),
+      cube-key (a .0 .size),
       ap length (c .before .before .before .before .before .compute-permutation .ensures) ∙ length-moved _ _ _,
       a .1,
     )

@@ -1,6 +1,6 @@
 -- `pass`: the entries are filed, and the sources swept.
 use borrow.Author.Tests.{not-true, not-false}
-use Rattle.table_level.proofs.SizeLaws.{cube-keys}
+use Rattle.search_theory.proofs.KeyLaws.{cube-key}
 use Rattle.table_level.proofs.LevelLaws.{widen-none, stretched-crowded}
 use borrow.Author.Needs.{needs}
 use Rattle.table_level.proofs.pass.Statement.{statement}
@@ -13,7 +13,7 @@ mul-refile-2 : tie.Need-mul-refile-2
 mul-refile-2 c = search needs
 
 refile-requires : tie.Need-refile-requires
-refile-requires c κs = (cube-keys (c .before .before .before .before .before .before .before .pre .0 .size), c .before .before .before .before .before .before .before .pre .1)
+refile-requires c κs = (cube-key (c .before .before .before .before .before .before .before .pre .0 .size), c .before .before .before .before .before .before .before .pre .1)
 
 same-length : tie.Need-same-length
 same-length c = search needs

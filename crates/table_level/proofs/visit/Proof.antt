@@ -3,7 +3,8 @@ use native.Mathlib.Omega.{arith}
 use Prim.Native.Nat.{_≤_, _+_, _*_}
 use lib.ListN.{length}
 use Rattle.generic_cube.specs.Sizes.{stickers}
-use Rattle.table_level.proofs.SizeLaws.{cube-some, cube-keys}
+use Rattle.search_theory.proofs.KeyLaws.{cube-key}
+use Rattle.table_level.proofs.SizeLaws.{cube-some}
 use Rattle.table_level.proofs.LevelLaws.{start-fits, start-is, start-long, visit-first, visit-later}
 use borrow.Author.Needs.{needs}
 use Rattle.table_level.proofs.visit.Statement.{statement}
@@ -37,7 +38,7 @@ part-enter-end c = omega (arith, fit (c .before))
 enter-requires : tie.Need-enter-requires
 enter-requires c κs =
     let a = c .before .before .before .before .before .before .before .before .before in (
-      cube-keys (a .pre .0 .size),
+      cube-key (a .pre .0 .size),
       start-long (stickers (a .args .n)) (a .args .at) (a .args .starts .now) (omega (arith, cube-some (a .pre .0 .some))) (omega (arith, a .pre .2 .first (c .before .before .before .if1 .taken))),
       a .pre .1,
     )

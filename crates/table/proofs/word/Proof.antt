@@ -1,15 +1,18 @@
 -- `word`: six bytes are four and two.
-use native.Mathlib.Omega.{arith}
 use native.Mathlib.Nat.{add-assoc}
+use native.Mathlib.Omega.{arith}
 use borrow.Author.Needs.{needs}
-use Rattle.key_index.proofs.word.Statement.{statement}
-use Rattle.key_index.proofs.word.Tie as tie
+use Rattle.table.proofs.word.Statement.{statement}
+use Rattle.table.proofs.word.Tie as tie
 
 four-requires : tie.Need-four-requires
 four-requires c κs = search needs
 
 cast-result : tie.Need-cast-result
 cast-result c = search needs
+
+mul-result : tie.Need-mul-result
+mul-result c = search needs
 
 add-two : tie.Need-add-two
 add-two c = search needs
@@ -19,9 +22,6 @@ two-requires c κs = search needs
 
 cast-result-2 : tie.Need-cast-result-2
 cast-result-2 c = search needs
-
-mul-result : tie.Need-mul-result
-mul-result c = search needs
 
 add-result : tie.Need-add-result
 add-result c = search needs
@@ -35,9 +35,9 @@ word-spec =
     (tie.spec
     four-requires
     cast-result
+    mul-result
     add-two
     two-requires
     cast-result-2
-    mul-result
     add-result
     returns)
