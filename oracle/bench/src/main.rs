@@ -49,7 +49,9 @@ fn shown(ns: f64) -> String {
 }
 
 fn row(job: &str, crates: f64, ours: f64) {
-    println!("| {job} | {} | {} | {:.2} |", shown(crates), shown(ours), crates / ours);
+    let ratio = crates / ours;
+    let digits = if ratio < 0.01 { 5 } else { 2 };
+    println!("| {job} | {} | {} | {ratio:.digits$} |", shown(crates), shown(ours));
 }
 
 /// A list of face moves, and one with every kind of move.
@@ -196,26 +198,50 @@ fn away(rng: &mut Rng, solver: &Solver, length: usize) -> FaceletCube {
     }
 }
 
-/// Searches with a table of depth 3, timed per visit.
+/// A number with its thousands apart.
+fn grouped(count: usize) -> String {
+    let digits = count.to_string();
+    let groups: Vec<&str> = digits.as_bytes().rchunks(3).rev().map(|g| std::str::from_utf8(g).unwrap()).collect();
+    groups.join(",")
+}
+
+/// What a table is called in a row.
+fn named(depth: usize, entries: usize) -> String {
+    format!("table of depth {depth}, {} {}", grouped(entries), if entries == 1 { "entry" } else { "entries" })
+}
+
+/// A search of a cube so many moves away, timed per visit; both sides make the same visits.
+fn visiting(rng: &mut Rng, solver: &Solver, table: &[u8], faces: &[u16], depth: usize, length: usize) {
+    let cube = away(rng, solver, length);
+    let from = letters(&cube.state());
+    let mut count = 0;
+    assert!((0..=length as i32).any(|limit| visits(&cube, solver, None, limit, &mut count)));
+    let crates = median(3, || drop(black_box(ida_star(&cube, solver, length as i32).map(|l| codes(&l)))));
+    let (mut work, mut out) = (vec![0u8; (length + 1) * 54], vec![0u16; length]);
+    let ours = median(3, || {
+        black_box(cubesim_proved::ida_star(3, &from, table, depth, faces, length, &mut work, &mut out).unwrap());
+    });
+    let job = format!("a visit, {}, {length} moves away, {} visits", named(depth, table.len() / 55), grouped(count as usize));
+    row(&job, crates / count as f64, ours / count as f64);
+}
+
+/// Searches at n = 3 with 18 face moves and tables from 1 to 621,649 entries, and for each table a call of one visit.
 fn searching(rng: &mut Rng) {
     let faces = face_moves();
     let ms = mvs(&faces);
-    let solver = Solver::new(ms.clone(), PruningTable::new(&[FaceletCube::new(3)], 3, &ms));
-    let mut entries: Vec<(Vec<u8>, i32)> = solver.pruning_table.entries().iter().map(|(k, v)| (letters(k), *v)).collect();
-    entries.sort();
-    let table: Vec<u8> = entries.iter().flat_map(|(k, v)| k.iter().copied().chain([*v as u8])).collect();
-    for length in [7usize, 8, 9] {
-        let cube = away(rng, &solver, length);
-        let from = letters(&cube.state());
-        let mut count = 0;
-        assert!((0..=length as i32).any(|limit| visits(&cube, &solver, None, limit, &mut count)));
-        let crates = median(3, || drop(black_box(ida_star(&cube, &solver, length as i32).map(|l| codes(&l)))));
-        let (mut work, mut out) = (vec![0u8; (length + 1) * 54], vec![0u16; length]);
-        let ours = median(3, || {
-            black_box(cubesim_proved::ida_star(3, &from, &table, 3, &faces, length, &mut work, &mut out).unwrap());
-        });
-        let job = format!("a visit of a search n = 3, 18 face moves, table of depth 3, {length} moves away, {count} visits");
-        row(&job, crates / count as f64, ours / count as f64);
+    let solved = FaceletCube::new(3);
+    for (depth, lengths) in [(3usize, &[7usize, 8, 9][..]), (0, &[5]), (4, &[9, 10]), (5, &[9, 10])] {
+        let solver = Solver::new(ms.clone(), PruningTable::new(&[solved.clone()], depth as i32, &ms));
+        let mut entries: Vec<(Vec<u8>, i32)> = solver.pruning_table.entries().iter().map(|(k, v)| (letters(k), *v)).collect();
+        entries.sort();
+        let table: Vec<u8> = entries.iter().flat_map(|(k, v)| k.iter().copied().chain([*v as u8])).collect();
+        for length in lengths {
+            visiting(rng, &solver, &table, &faces, depth, *length);
+        }
+        let crates = median_of_calls(11, 1, || ida_star(black_box(&solved), &solver, 0).map(|l| codes(&l)));
+        let (from, mut work) = (letters(&solved.state()), vec![0u8; 54]);
+        let ours = median_of_calls(11, 1, || cubesim_proved::ida_star(3, black_box(&from), &table, depth, &faces, 0, &mut work, &mut []).unwrap());
+        row(&format!("a search of one visit, {}", named(depth, entries.len())), crates, ours);
     }
 }
 

@@ -13,15 +13,38 @@ use std::collections::{BTreeMap, BTreeSet};
 
 const FACTOR: u64 = 2_654_435_761;
 const UPPER: u64 = 40_503;
-const SMALL: u64 = 1_024;
+const SMALL: u64 = 2_048;
 const LARGE: u64 = 262_144;
 const RUN: u64 = 64;
 const CLASSES: u64 = 1_024;
 
+/// The lines of the library's text that the numbers above and the functions below repeat: a key crowds no index but the one it was made for.
+fn as_built() {
+    let (table, index, climb) = (
+        include_str!("../../../../crates/table/src/lib.rt"),
+        include_str!("../../../../crates/key_index/src/lib.rt"),
+        include_str!("../../../../crates/table_climb/src/lib.rt"),
+    );
+    for (text, line) in [
+        (table, "256 * wide(s[j]) + wide(s[j + 1])"),
+        (table, "16777216 * wide(s[j]) + 65536 * wide(s[j + 1]) + 256 * wide(s[j + 2]) + wide(s[j + 3])"),
+        (table, "65536 * (four(s, j) as usize) + (two(s, j + 4) as usize)"),
+        (index, "h = mix(h, table::word(key, 6 * k));"),
+        (index, "(h + x % 4294967296 + x / 4294967296 * 40503) % 4294967296 * 2654435761 / 65536 % 4294967296"),
+        (index, "h / CLASSES * (slots - RUN) / 4194304"),
+        (index, "const CLASSES: usize = 1024;"),
+        (index, "const RUN: usize = 64;"),
+        (climb, "const FEW: usize = 2048;"),
+        (climb, "const MANY: usize = 262144;"),
+    ] {
+        assert!(text.contains(line), "the builder has changed, and these keys no longer crowd it: {line}");
+    }
+}
+
 /// The hash of a key, six bytes at a time.
 fn hash(key: &[u8]) -> u64 {
     key.chunks(6).fold(0, |h, six| {
-        let word = six.iter().rev().fold(0u64, |w, b| w * 256 + *b as u64);
+        let word = six.iter().fold(0u64, |w, b| w * 256 + *b as u64);
         (h + word % (1 << 32) + (word >> 32) * UPPER) % (1 << 32) * FACTOR / 65_536 % (1 << 32)
     })
 }
@@ -41,13 +64,13 @@ fn before(h: u64) -> Option<u64> {
     (0..65_536u64).map(|low| (h * 65_536 + low).wrapping_mul(inverse) % (1 << 48)).find(|s| *s < 1 << 32)
 }
 
-/// A random key whose last four-byte number is chosen so that its hash ends as that.
+/// A random key whose last four bytes are chosen so that its hash ends as that.
 fn key_with(rng: &mut Rng, n: usize, sum: u64) -> Vec<u8> {
     let mut key = random_key(rng, n);
     let last = key.len() - 6;
-    let upper = key[last + 4] as u64 + 256 * key[last + 5] as u64;
+    let upper = 256 * key[last] as u64 + key[last + 1] as u64;
     let word = sum.wrapping_sub(hash(&key[..last])).wrapping_sub(upper * UPPER) % (1 << 32);
-    key[last..last + 4].copy_from_slice(&(word as u32).to_le_bytes());
+    key[last + 2..].copy_from_slice(&(word as u32).to_be_bytes());
     key
 }
 
@@ -238,6 +261,7 @@ fn mixed(tally: &mut Tally, rng: &mut Rng) {
 }
 
 pub fn all(tally: &mut Tally, rng: &mut Rng) {
+    as_built();
     runs(tally, rng);
     fillings(tally, rng);
     orders(tally, rng);

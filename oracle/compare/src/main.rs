@@ -47,6 +47,7 @@ fn main() {
     solving::searches(&mut tally, &mut rng);
     solving::chosen_tables(&mut tally, &mut rng);
     crowded::all(&mut tally, &mut rng);
+    solving::lookups(&mut tally, &mut rng);
     if large {
         solving::largest_table(&mut tally);
     }

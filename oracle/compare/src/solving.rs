@@ -5,6 +5,7 @@ use compare::inputs::{Build, Entries, Search};
 use compare::rng::Rng;
 use cubesim::prelude::{Cube, FaceletCube};
 use cubesim_proved::Refusal;
+use std::collections::BTreeSet;
 
 pub fn bytes(entries: &Entries) -> Vec<u8> {
     entries.iter().flat_map(|(k, v)| k.iter().copied().chain([*v as u8])).collect()
@@ -149,5 +150,38 @@ pub fn searches(tally: &mut Tally, rng: &mut Rng) {
         tally.same(if round % 2 == 0 { "ida_star on built tables, a search each" } else { "ida_star on spoiled tables, a search each" }, &crates, &ours, || {
             format!("size {n}, cube {from:?}, entries {entries:?}, depth {depth}, moves {moves:?}, limit {limit}")
         });
+    }
+}
+
+/// Keys that are alike up to some byte, so that single bytes and whole words decide how they stand.
+fn alike(rng: &mut Rng, m: usize, count: usize) -> Vec<Vec<u8>> {
+    let base: Vec<u8> = (0..m).map(|_| rng.below(256) as u8).collect();
+    let mut keys = BTreeSet::new();
+    while keys.len() < count {
+        let (mut key, from) = (base.clone(), rng.below(m));
+        let till = if rng.below(2) == 0 { from + 1 } else { m };
+        key[from..till].iter_mut().for_each(|b| *b = rng.below(256) as u8);
+        keys.insert(key);
+    }
+    keys.into_iter().collect()
+}
+
+/// Every place of tables of up to 40 entries of any bytes, and keys beside them. A search with limit 0 tells whether the number that it reads is 0; the
+/// judge walks the entries.
+pub fn lookups(tally: &mut Tally, rng: &mut Rng) {
+    for (n, count) in (1usize..=7).flat_map(|n| (1usize..=40).map(move |count| (n, count))) {
+        let keys = alike(rng, 6 * n * n, count);
+        for goal in 0..count {
+            let number = |i: usize| if i == goal { 0u8 } else { 1 + (i % 3) as u8 };
+            let table: Vec<u8> = keys.iter().enumerate().flat_map(|(i, k)| k.iter().copied().chain([number(i)])).collect();
+            let mut beside = keys[goal].clone();
+            let at = rng.below(beside.len());
+            beside[at] = beside[at].wrapping_add(*rng.of(&[1, 255]));
+            for key in [&keys[goal], &keys[rng.below(count)], &beside] {
+                let want = keys.iter().position(|k| k == key).is_some_and(|i| number(i) == 0).then_some(0);
+                let ours = cubesim_proved::ida_star(n, key, &table, 3, &[], 0, &mut vec![5; 6 * n * n], &mut []).unwrap();
+                tally.same("ida_star with limit 0 on any bytes, a lookup each", &want, &ours, || format!("size {n}, key {key:?}, table {table:?}"));
+            }
+        }
     }
 }
