@@ -29,7 +29,7 @@ extern "C" {
 /* The version of this header, as VERSION has it. CHANGELOG.md says what a change of it means. */
 #define CUBESIM_VERSION_MAJOR 0
 #define CUBESIM_VERSION_MINOR 3
-#define CUBESIM_VERSION_PATCH 0
+#define CUBESIM_VERSION_PATCH 1
 #define CUBESIM_VERSION (CUBESIM_VERSION_MAJOR * 65536 + CUBESIM_VERSION_MINOR * 256 + CUBESIM_VERSION_PATCH)
 
 /* The version of the library that is linked, MAJOR*65536 + MINOR*256 + PATCH. Not an answer with a refusal: a plain number, and never refused.
