@@ -121,7 +121,7 @@ add-result c = search needs
 returns-2 : tie.Need-returns-2 Inv-loop μ-loop
 returns-2 c =
     let a = start-of-loop (c .before) .args in
-    sym (number-look (a .m) (a .table .now) (a .depth) (a .key .now) ∙ look-halved _ _ (c .before .loop .inv) (c .loop-test .left))
+    sym (number-look (a .m) (a .table .now) (a .depth) (a .key .now) ∙ look-halved _ _ (c .before .loop .inv) (omega (arith, c .loop-test .left)))
 
 pub number-spec : {M : Type 1} → statement M
 number-spec =
