@@ -17,7 +17,7 @@ use Rattle.ground.proofs.RefusalLaws.{Pass, passed, pass-lowest}
 use Rattle.generic_cube.specs.declared.Move.{Move}
 use Rattle.generic_cube.specs.declared.Code.the-variants.{Taken, Refused}
 use Rattle.generic_cube.specs.Sizes.{sized, small, beyond, stickers}
-use Rattle.generic_cube.specs.Code.{codeOf, moveOf, withTurn, turnedTo, isWide, badCode, readCode, outside, badWidthIn, rowsIn, refusalIn, listRefusal, joins, barred}
+use Rattle.generic_cube.specs.Code.{codeOf, moveOf, withTurn, turnedTo, isWide, badCode, readCode, outside, badWidthIn, rowsIn, refusalIn, listRefusal, joins}
 use Rattle.generic_cube.specs.Inner.{Sized, Fair}
 
 -- a size that is in range
@@ -119,10 +119,6 @@ joins-is c d =
     bool-cases (eqb (c / 4 % 16) (d / 4 % 16))
     (λ u. let k : c / 4 % 16 ≡ d / 4 % 16 = eqb-true _ _ u in rw (t, u, ne-eqb (c / 64) (d / 64) (λ e. f (omega arith))))
     (λ u. rw (t, u)))
-
-pub barred-is : (c d : ℕ) → eqb (c / 4 % 16) (d / 4 % 16) ≡ barred c d
-unfolding barred moveOf
-barred-is c d = refl
 
 pub turned-is : (c t : ℕ) → c / 4 * 4 + t ≡ turnedTo c t
 unfolding turnedTo codeOf moveOf

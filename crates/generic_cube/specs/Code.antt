@@ -63,10 +63,6 @@ listRows n cs = rowsIn 1 n cs
 unfoldable pub listRefusal : ℕ → List ℕ → ℕ
 listRefusal n cs = lowest (listRows n cs)
 
--- neighbours of equal kind and width join
+-- neighbours of equal kind and width join; a search never makes two such moves in a row
 unfoldable pub joins : ℕ → ℕ → Bool
 joins c d = eqb (moveOf c .kind) (moveOf d .kind) && eqb (moveOf c .width) (moveOf d .width)
-
--- the search's rule: no two neighbours have the same kind
-unfoldable pub barred : ℕ → ℕ → Bool
-barred c d = eqb (moveOf c .kind) (moveOf d .kind)

@@ -3,7 +3,7 @@ ghost use mathlib.Core.Path.{_≡_};
 ghost use Prim.Native.Nat.{_≤_};
 ghost use Rattle.ground.specs.Choice.{between};
 ghost use Rattle.generic_cube.specs.Sizes.{sized, small, beyond};
-ghost use Rattle.generic_cube.specs.Code.{codeOf, moveOf, turnedTo, isWide, badWidthIn, outside, readCode, refusalIn, listRefusal, joins, barred};
+ghost use Rattle.generic_cube.specs.Code.{codeOf, moveOf, turnedTo, isWide, badWidthIn, outside, readCode, refusalIn, listRefusal, joins};
 ghost use Rattle.generic_cube.specs.Inner.{Codable};
 use ground::codes::MoveCode;
 
@@ -117,18 +117,11 @@ pub fn is_outside(low: usize, high: usize, width: usize) -> bool
     !is_between(low, high, width)
 }
 
-// Whether two neighbours join: they have equal kind and width.
+// Whether two neighbours join: they have equal kind and width. The search never makes two such moves in a row.
 pub fn do_join(a: MoveCode, b: MoveCode) -> bool
     ensures { λ r. ⌜ r ≡ joins a b ⌝ }
 {
     a / 4 == b / 4
-}
-
-// Whether a search may not make a move right after another: they have the same kind.
-pub fn is_barred(last: MoveCode, code: MoveCode) -> bool
-    ensures { λ r. ⌜ r ≡ barred last code ⌝ }
-{
-    last / 4 % 16 == code / 4 % 16
 }
 
 // The turn of a code.

@@ -4,7 +4,7 @@ ghost use mathlib.Core.List.{[]};
 ghost use Prim.Native.Nat.{_≤_};
 ghost use lib.ListN.{length};
 ghost use Rattle.generic_cube.specs.Sizes.{stickers};
-ghost use Rattle.generic_cube.specs.Code.{moveOf, barred};
+ghost use Rattle.generic_cube.specs.Code.{moveOf, joins};
 ghost use Rattle.geometric_moves.specs.Turn.{moved};
 ghost use Rattle.search_theory.specs.Search.{bars, dfs};
 ghost use Rattle.search_theory.specs.CubeSearch.{cubeTask};
@@ -20,15 +20,15 @@ pub enum Outcome {
     Refused(u8),
 }
 
-// Whether a move may not follow the last of those made.
+// Whether a move may not follow the last of those made: the two would join.
 fn path_bars(made: &[MoveCode], code: MoveCode) -> bool
-    ensures { λ r. ⌜ r ≡ bars barred (now (made .entry)) code ⌝ }
+    ensures { λ r. ⌜ r ≡ bars joins (now (made .entry)) code ⌝ }
 {
     let len = made.len();
     if len == 0 {
         return false;
     }
-    generic_cube::is_barred(made[len - 1], code)
+    generic_cube::do_join(made[len - 1], code)
 }
 
 // The next level's cube: a copy of this level's, turned where it stands.

@@ -1,3 +1,4 @@
 pub mod SearchLaws
 pub mod PathFreeLaws
+pub mod RuleLaws
 pub mod KeyLaws

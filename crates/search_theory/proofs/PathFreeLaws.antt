@@ -10,7 +10,7 @@ use borrow.Author.Tests.{eqb-true, eqb-false, ltb-true}
 use Rattle.ground.specs.Choice.{pick, position}
 use Rattle.ground.proofs.ChoiceLaws.{position-cases, position-head}
 use Rattle.search_theory.specs.Search.{Reply, none, found, orElse, firstOf, Task, bars, dfs, runTask, Allowed, Solves}
-use Rattle.search_theory.proofs.SearchLaws.{never-found, unfound, picked, else-found, first-none, bars-snoc, tried}
+use Rattle.search_theory.proofs.SearchLaws.{never-found, unfound, picked, else-found, first-none, first-same, bars-snoc, tried}
 
 -- an answer with a move in front of its list
 unfoldable pub leadBy : ℕ → Reply → Reply
@@ -198,11 +198,6 @@ unfolding firstOf afterMade
 first-after path f g h [] = refl
 first-after path f g h (c ∷ cs) = ap₂ orElse (h c) (first-after path f g h cs) ∙ sym (after-or path (g c) (firstOf g cs))
 
-first-same : (f g : ℕ → Reply) → ((c : ℕ) → f c ≡ g c) → (cs : List ℕ) → firstOf f cs ≡ firstOf g cs
-unfolding firstOf
-first-same f g h [] = refl
-first-same f g h (c ∷ cs) = ap₂ orElse (h c) (first-same f g h cs)
-
 module _ (t : Task) where
   -- of the moves made only the last counts
   seek-last : (k : ℕ) (path : List ℕ) (a : ℕ) (s : List ℕ) → seek t k (path ++ (a ∷ [])) s ≡ seek t k (a ∷ []) s
@@ -210,8 +205,8 @@ module _ (t : Task) where
   seek-last zero path a s = refl
   seek-last (suc k) path a s =
       ap (λ r. pick (eqb (t .number s) 0) (found []) (pick (ltb (suc k) (t .number s)) none r))
-      (first-same (sought t k (path ++ (a ∷ [])) s) (sought t k (a ∷ []) s)
-      (λ c. ap (λ b. pick b none (leadBy c (seek t k (c ∷ []) (t .moved c s)))) (bars-snoc (t .barred) path a c)) (t .candidates))
+      (first-same (sought t k (path ++ (a ∷ [])) s) (sought t k (a ∷ []) s) (t .candidates)
+      (λ c m. ap (λ b. pick b none (leadBy c (seek t k (c ∷ []) (t .moved c s)))) (bars-snoc (t .barred) path a c)))
 
   pub dfs-seek : (k : ℕ) (path s : List ℕ) → dfs t k path s ≡ afterMade path (seek t k path s)
   unfolding dfs seek afterMade

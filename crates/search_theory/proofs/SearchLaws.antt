@@ -1,6 +1,6 @@
 -- Answers, one visit and one pass at a time.
 use Prim.Native.Nat.{ℕ, zero, suc, _+_, _-_, _≤_, _<_}
-use mathlib.Core.Path.{_≡_, refl, sym, ap, _∙_}
+use mathlib.Core.Path.{_≡_, refl, sym, ap, ap₂, _∙_}
 use mathlib.Core.Bool.{Bool, true, false}
 use mathlib.Core.List.{List, [], _∷_, _++_, List·Memᴰ, List·Memᴰ·head, List·Memᴰ·tail}
 use native.Mathlib.Omega.{arith}
@@ -37,6 +37,12 @@ pub first-none : (f : ℕ → Reply) (cs : List ℕ) → firstOf f cs ≡ none �
 unfolding firstOf
 first-none f (x ∷ cs) e (List·Memᴰ·head h) = ap f h ∙ else-none (f x) e .0
 first-none f (x ∷ cs) e (List·Memᴰ·tail m) = first-none f cs (else-none (f x) e .1) m
+
+-- what answers alike at each argument has one first list
+pub first-same : (f g : ℕ → Reply) (cs : List ℕ) → ((c : ℕ) → List·Memᴰ c cs → f c ≡ g c) → firstOf f cs ≡ firstOf g cs
+unfolding firstOf
+first-same f g [] h = refl
+first-same f g (c ∷ cs) h = ap₂ orElse (h c (List·Memᴰ·head refl)) (first-same f g cs (λ d m. h d (List·Memᴰ·tail m)))
 
 -- a walk that comes to place i: the first list of what is left
 module _ (f : ℕ → Reply) (cs : List ℕ) (i : ℕ) where

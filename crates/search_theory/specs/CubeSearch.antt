@@ -4,7 +4,7 @@ use mathlib.Core.Path.{_≡_}
 use mathlib.Core.List.{List}
 use lib.ListN.{length}
 use Rattle.generic_cube.specs.Sizes.{stickers}
-use Rattle.generic_cube.specs.Code.{moveOf, barred}
+use Rattle.generic_cube.specs.Code.{moveOf, joins}
 use Rattle.geometric_moves.specs.Turn.{moved}
 use Rattle.table.specs.Table.{stateNumber}
 use Rattle.search_theory.specs.Search.{Task, Admissible}
@@ -22,10 +22,11 @@ pub record CubeSearch : Type 0 where
 abbrev pub movedBy : ℕ → ℕ → List ℕ → List ℕ
 movedBy n c s = moved n (moveOf c) s
 
--- a move turns the cube; a state's number is the one that the table gives; no two neighbours have the same kind
+-- a move turns the cube; a state's number is the one that the table gives; no two neighbours share both kind and
+-- width, as those that join do
 abbrev pub cubeTask : ℕ → List ℕ → ℕ → List ℕ → Task
 cubeTask n table depth candidates =
-    record { moved = movedBy n; number = stateNumber (stickers n) table depth; barred = barred; candidates = candidates }
+    record { moved = movedBy n; number = stateNumber (stickers n) table depth; barred = joins; candidates = candidates }
 
 abbrev pub taskOf : CubeSearch → Task
 taskOf q = cubeTask (q .n) (q .table) (q .depth) (q .candidates)

@@ -30,6 +30,10 @@ pub record Task : Type 0 where
   pub barred : ℕ → ℕ → Bool
   pub candidates : List ℕ
 
+-- the same under another neighbour rule
+abbrev pub underRule : (ℕ → ℕ → Bool) → Task → Task
+underRule rule t = record { moved = t .moved; number = t .number; barred = rule; candidates = t .candidates }
+
 -- whether a move may not follow the last of those made so far
 unfoldable pub bars : (ℕ → ℕ → Bool) → List ℕ → ℕ → Bool
 bars barred [] c = false

@@ -105,10 +105,10 @@ never-refused none d = let y : _≡_ {A = ℕ} 0 1 = cc in omega arith
 never-refused (found p) d = let y : _≡_ {A = ℕ} 0 1 = cc in omega arith
 
 -- number 0: a search that ended with this answer, which value and output tell
-record ReadRan (q : CubeSearch) (out′ : List ℕ) (r : ℕ) : Type 0 where
-  given : Outcome
-  ran : Ran q out′ given
-  told : replyRead (r / 256) out′ ≡ replyTold given out′
+pub record ReadRan (q : CubeSearch) (out′ : List ℕ) (r : ℕ) : Type 0 where
+  pub given : Outcome
+  pub ran : Ran q out′ given
+  pub told : replyRead (r / 256) out′ ≡ replyTold given out′
 
 module _ (q : CubeSearch) (work work′ out out′ : List ℕ) where
   -- an answer that is no refusal was given to a search that is taken
@@ -119,7 +119,7 @@ module _ (q : CubeSearch) (work work′ out out′ : List ℕ) where
       (λ t. f (record { work = work; work′ = work′; out = out; taken = eqb-true _ _ t; result = p }))
       (λ t. g (searchRefusal q (length work) (length out)) (rw t at (p .answered)) (search-most q (length work) (length out)) (eqb-false _ _ t))
 
-  read-ran : {r : ℕ} → SearchCall q work work′ out out′ r → r % 256 ≡ 0 → ReadRan q out′ r
+  pub read-ran : {r : ℕ} → SearchCall q work work′ out out′ r → r % 256 ≡ 0 → ReadRan q out′ r
   read-ran {r} c z = go (c .answer) (c .result) (c .packed)
     where
       go : (a : Outcome) → IdaStarResult q work work′ out out′ a → r ≡ pack (outcomeNo a) (outcomeValue a) → ReadRan q out′ r

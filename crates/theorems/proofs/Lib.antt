@@ -15,3 +15,4 @@ pub mod TakenLaws
 pub mod WriterLaws
 pub mod BytesLaws
 pub mod BoundaryLaws
+pub mod CrateRuleLaws

@@ -4,7 +4,7 @@ use mathlib.Core.Path.{_≡_, refl}
 use mathlib.Core.List.{[], _∷_, List·Memᴰ, List·Memᴰ·head}
 use native.Mathlib.Omega.{arith}
 use lib.ListN.{getD}
-use Rattle.generic_cube.specs.Code.{moveOf, barred}
+use Rattle.generic_cube.specs.Code.{moveOf, joins}
 use Rattle.geometric_moves.specs.Turn.{sameFace, whither, inverseRot, turnOf, quarterOf, kindFace, layersOf, takes, target, source, moved, run}
 use Rattle.table.specs.Order.{orderOf}
 use Rattle.table.specs.Table.{bytes, firstEntries, numberFor, stateNumber}
@@ -35,5 +35,5 @@ too-high limit low =
     omega (arith, numbered-3 limit)
 
 pub only-u : OnlyU
-unfolding add addAll spread frontier built cubes bytes firstEntries numberFor stateNumber orderOf sameFace whither inverseRot turnOf quarterOf kindFace layersOf takes target source moved run moveOf tabulate orElse firstOf bars barred dfs passes
+unfolding add addAll spread frontier built cubes bytes firstEntries numberFor stateNumber orderOf sameFace whither inverseRot turnOf quarterOf kindFace layersOf takes target source moved run moveOf tabulate orElse firstOf bars joins dfs passes
 only-u = record { limit-2 = refl; limit-3 = refl; not-admissible = too-high }

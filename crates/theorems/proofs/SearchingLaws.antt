@@ -28,7 +28,7 @@ told-is none out = refl
 told-is (found p) out = ap found (take-at p (drop (length p) out) (length p) refl)
 
 -- the reply is the best one
-best-reply : (q : CubeSearch) → length (q .cube) ≡ stickers (q .n) → AdmissibleTable q → Best (taskOf q) (q .limit) (q .cube) (reply q)
+pub best-reply : (q : CubeSearch) → length (q .cube) ≡ stickers (q .n) → AdmissibleTable q → Best (taskOf q) (q .limit) (q .cube) (reply q)
 best-reply q whole low = best (taskOf q) (Cube (q .n)) (λ c m s h. length-moved (q .n) (moveOf c) s) low (q .limit) (q .cube) whole
 
 module _ {q : CubeSearch} {out′ : List ℕ} {r : Outcome} (e : Ran q out′ r) where

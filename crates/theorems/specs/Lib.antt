@@ -5,3 +5,4 @@ pub mod Cases
 pub mod Searching
 pub mod OneAnswer
 pub mod Boundary
+pub mod CrateRule
