@@ -140,9 +140,29 @@ fn lists() -> usize {
     1
 }
 
+/// A search for two moves from the solved cube after a scramble, over the table of the solved cube alone: the crate's answer, and the answer here.
+fn two_moves(n: usize, scramble: &[u16], moves: &[u16]) -> [Option<Vec<u16>>; 2] {
+    let (solved, from) = (FaceletCube::new(n as i32), FaceletCube::new(n as i32).apply_moves(&mvs(scramble)));
+    let crates = ida_star(&from, &Solver::new(mvs(moves), PruningTable::of_entries(&[(solved.state(), 0)], 0)), 2).map(|l| codes(&l));
+    let table = [letters(&solved.state()), vec![0]].concat();
+    let (mut work, mut out) = (vec![0u8; 18 * n * n], [0u16; 2]);
+    let found = cubesim_proved::ida_star(n, &letters(&from.state()), &table, 0, moves, 2, &mut work, &mut out).unwrap();
+    [crates, found.map(|count| out[..count].to_vec())]
+}
+
+/// In a search, neighbours of one kind and two widths are barred there.
+fn neighbours() -> usize {
+    let uw = |width, turn| cubesim_proved::code(width, 6, turn);
+    assert_eq!(two_moves(2, &[uw(1, 3), uw(2, 3)], &[uw(1, 1), uw(2, 1)]), [None, Some(vec![uw(1, 1), uw(2, 1)])]);
+    let scramble = ours_reads(6, "3Uw' 2Uw'").unwrap();
+    let turns: Vec<u16> = [2, 3].iter().flat_map(|width| (1..4).map(|turn| uw(*width, turn))).collect();
+    assert_eq!(two_moves(6, &scramble, &turns), [None, Some(vec![uw(2, 1), uw(3, 1)])]);
+    2
+}
+
 pub fn all() -> usize {
     std::panic::set_hook(Box::new(|_| ()));
-    let shown = notation() + moving() + bounds() + lists();
+    let shown = notation() + moving() + bounds() + lists() + neighbours();
     let _ = std::panic::take_hook();
     shown
 }

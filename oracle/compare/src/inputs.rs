@@ -1,5 +1,6 @@
-//! Inputs inside the rules' domain of equality, and what the crate makes of those of tables and searches.
-use crate::crate_side::{codes, faces, letters, mvs, LETTERS};
+//! Inputs inside the rules' domain of equality, and of searches outside it too; what the crate makes of those of tables and searches, and what the rules
+//! make of a search.
+use crate::crate_side::{codes, faces, letters, mv, mvs, LETTERS};
 use crate::rng::Rng;
 use cubesim::prelude::open::{ida_star, PruningTable, Solver};
 use cubesim::prelude::{Cube, FaceletCube};
@@ -80,6 +81,39 @@ fn candidates(rng: &mut Rng, n: usize) -> Vec<u16> {
     list
 }
 
+/// Which widths a search's candidates have. Inside the domain of equality each wide kind has one.
+#[derive(Clone, Copy, PartialEq)]
+pub enum Widths {
+    One,
+    Two,
+}
+
+fn kind_and_width(code: u16) -> (u16, u16) {
+    (code / 4 % 16, code / 64)
+}
+
+/// The candidates whose kind has another width among them.
+fn of_two_widths(moves: &[u16]) -> Vec<u16> {
+    let other = |c: u16, d: u16| c / 4 % 16 == d / 4 % 16 && c / 64 != d / 64;
+    moves.iter().copied().filter(|c| moves.iter().any(|d| other(*c, *d))).collect()
+}
+
+/// Candidates of a search: of one width a kind, or with a second width of one of the wide kinds.
+fn searched(rng: &mut Rng, n: usize, widths: Widths) -> Vec<u16> {
+    if widths == Widths::One {
+        return std::iter::repeat_with(|| candidates(rng, n)).find(|list| of_two_widths(list).is_empty()).unwrap();
+    }
+    let mut list = candidates(rng, n);
+    let (kind, first) = (6 + rng.below(6) as u16, rng.below(n));
+    for width in [first, (first + 1 + rng.below(n - 1)) % n] {
+        let turn = 1 + rng.below(3) as u16;
+        for t in [turn, 4 - turn] {
+            list.insert(rng.below(list.len() + 1), (width as u16 + 1) * 64 + kind * 4 + t);
+        }
+    }
+    list
+}
+
 /// A cube after a few moves, now and then with stickers hidden.
 pub fn cube(rng: &mut Rng, n: usize) -> FaceletCube {
     let length = rng.below(6);
@@ -131,12 +165,15 @@ pub struct Search {
     pub depth: usize,
     pub moves: Vec<u16>,
     pub limit: usize,
+    /// the table was built from candidates with all their inverses, and nothing in it was changed
+    pub admissible: bool,
 }
 
 impl Search {
-    pub fn new(rng: &mut Rng, spoiled: bool) -> Self {
-        let n = 1 + rng.below(3);
-        let moves = candidates(rng, n);
+    pub fn new(rng: &mut Rng, spoiled: bool, widths: Widths) -> Self {
+        let n = if widths == Widths::One { 1 + rng.below(3) } else { 2 + rng.below(3) };
+        let moves = searched(rng, n, widths);
+        let admissible = !spoiled && moves.iter().all(|c| moves.contains(&(c / 4 * 4 + (4 - c % 4))));
         let depth = rng.below(3);
         let mut entries = sorted(&PruningTable::new(&[cube(rng, n)], depth as i32, &mvs(&moves)));
         if spoiled {
@@ -151,15 +188,74 @@ impl Search {
         }
         let start: Vec<u8> = letters(&cube(rng, n).state());
         let near = rng.of(&entries).0.clone();
-        let length = rng.below(3);
-        let away: Vec<u16> = (0..length).map(|_| *rng.of(&moves)).collect();
+        let (length, two) = (rng.below(3), of_two_widths(&moves));
+        let made = if two.is_empty() || rng.below(2) == 0 { &moves } else { &two };
+        let away: Vec<u16> = (0..length).map(|_| *rng.of(made)).collect();
         let from = if rng.below(3) == 0 { start } else { letters(&FaceletCube::from(faces(&near)).apply_moves(&mvs(&away)).state()) };
-        Search { n, from, entries, depth, moves, limit: rng.below(4) }
+        Search { n, from, entries, depth, moves, limit: rng.below(4), admissible }
     }
 
     pub fn crates(&self) -> Option<Vec<u16>> {
         let keyed: Vec<_> = self.entries.iter().map(|(k, v)| (faces(k), *v)).collect();
         let solver = Solver::new(mvs(&self.moves), PruningTable::of_entries(&keyed, self.depth as i32));
-        ida_star(&FaceletCube::from(faces(&self.from)), &solver, self.limit as i32).map(|l| codes(&l))
+        ida_star(&self.start(), &solver, self.limit as i32).map(|l| codes(&l))
+    }
+
+    fn start(&self) -> FaceletCube {
+        FaceletCube::from(faces(&self.from))
+    }
+
+    fn number(&self, cube: &FaceletCube) -> usize {
+        let key = letters(&cube.state());
+        self.entries.binary_search_by(|(k, _)| k.cmp(&key)).map_or(self.depth + 1, |i| self.entries[i].1 as usize)
+    }
+
+    /// No two neighbours share both kind and width.
+    fn may_follow(made: &[u16], code: u16) -> bool {
+        made.last().is_none_or(|last| kind_and_width(*last) != kind_and_width(code))
+    }
+
+    /// What the rules answer, for any table: depth-first search under rising limits, over the crate's moves.
+    pub fn ruled(&self) -> Option<Vec<u16>> {
+        (0..=self.limit).find_map(|left| self.pass(&self.start(), &mut Vec::new(), left))
+    }
+
+    fn pass(&self, cube: &FaceletCube, made: &mut Vec<u16>, left: usize) -> Option<Vec<u16>> {
+        let number = self.number(cube);
+        if number == 0 {
+            return Some(made.clone());
+        }
+        if number > left {
+            return None;
+        }
+        self.moves.iter().find_map(|code| {
+            if !Self::may_follow(made, *code) {
+                return None;
+            }
+            made.push(*code);
+            let found = self.pass(&cube.apply_move(mv(*code)), made, left - 1);
+            made.pop();
+            found
+        })
+    }
+
+    /// What demand 3 wants, by its words: of all allowed lists within the limit, by length and then in candidate order, the first that reaches a goal.
+    pub fn foremost(&self) -> Option<Vec<u16>> {
+        let mut lists = vec![(Vec::new(), self.start())];
+        for length in 0..=self.limit {
+            if let Some((list, _)) = lists.iter().find(|(_, cube)| self.number(cube) == 0) {
+                return Some(list.clone());
+            }
+            if length < self.limit {
+                lists = lists.iter().flat_map(|(list, cube)| self.longer(list, cube)).collect();
+            }
+        }
+        None
+    }
+
+    /// A list with each candidate that may follow, in their order, and where it leads.
+    fn longer(&self, list: &[u16], cube: &FaceletCube) -> Vec<(Vec<u16>, FaceletCube)> {
+        let free = self.moves.iter().filter(|code| Self::may_follow(list, **code));
+        free.map(|code| ([list, &[*code]].concat(), cube.apply_move(mv(*code)))).collect()
     }
 }

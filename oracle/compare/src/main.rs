@@ -44,7 +44,8 @@ fn main() {
     moving::masks(&mut tally, &mut rng);
     moving::solved(&mut tally, &mut rng);
     solving::tables(&mut tally, &mut rng);
-    solving::searches(&mut tally, &mut rng);
+    let otherwise = solving::searches(&mut tally, &mut rng);
+    assert!(otherwise > 0, "two widths of a kind, and the crate never answers otherwise");
     solving::chosen_tables(&mut tally, &mut rng);
     crowded::all(&mut tally, &mut rng);
     solving::lookups(&mut tally, &mut rng);
@@ -55,5 +56,6 @@ fn main() {
     for (kind, count) in &tally.0 {
         println!("{count:>9}  {kind}");
     }
+    println!("{otherwise:>9}  searches with two widths of a kind which the crate answers otherwise");
     println!("{:>9}  answers compared, seed {seed}, none different; {shown} known differences shown; {} s", tally.0.values().sum::<u64>(), start.elapsed().as_secs());
 }

@@ -1,7 +1,7 @@
 //! Pruning tables entry by entry, and searches on built tables and on spoiled ones.
 use crate::Tally;
 use compare::crate_side::letters;
-use compare::inputs::{Build, Entries, Search};
+use compare::inputs::{Build, Entries, Search, Widths};
 use compare::rng::Rng;
 use cubesim::prelude::{Cube, FaceletCube};
 use cubesim_proved::Refusal;
@@ -137,20 +137,41 @@ pub fn largest_table(tally: &mut Tally) {
     call(tally, "pruning_table, 621,649 entries, a call each", &asked, Err(Refusal::Room), &vec![0; want.len() - 55]);
 }
 
-pub fn searches(tally: &mut Tally, rng: &mut Rng) {
-    for round in 0..6_000 {
-        let asked = Search::new(rng, round % 2 == 1);
-        let Search { n, ref from, ref entries, depth, ref moves, limit } = asked;
-        let crates = asked.crates();
-        let mut work = vec![5u8; (limit + 1) * 6 * n * n];
-        let mut out = vec![0u16; limit];
-        let found = cubesim_proved::ida_star(n, from, &bytes(entries), depth, moves, limit, &mut work, &mut out).unwrap();
-        assert!(work.iter().all(|b| *b == 0));
-        let ours = found.map(|count| out[..count].to_vec());
-        tally.same(if round % 2 == 0 { "ida_star on built tables, a search each" } else { "ida_star on spoiled tables, a search each" }, &crates, &ours, || {
-            format!("size {n}, cube {from:?}, entries {entries:?}, depth {depth}, moves {moves:?}, limit {limit}")
-        });
+/// The answer here, with the work area zero afterwards.
+fn ours(asked: &Search) -> Option<Vec<u16>> {
+    let Search { n, ref from, ref entries, depth, ref moves, limit, .. } = *asked;
+    let mut work = vec![5u8; (limit + 1) * 6 * n * n];
+    let mut out = vec![0u16; limit];
+    let found = cubesim_proved::ida_star(n, from, &bytes(entries), depth, moves, limit, &mut work, &mut out).unwrap();
+    assert!(work.iter().all(|b| *b == 0));
+    found.map(|count| out[..count].to_vec())
+}
+
+/// Searches with candidates of one width a kind, where the crate is the judge, and with two widths of a kind, where the rules are; and where the table is
+/// admissible, all lists one by one. The answer is how often the crate answers otherwise where a kind has two widths.
+pub fn searches(tally: &mut Tally, rng: &mut Rng) -> usize {
+    let mut otherwise = 0;
+    for round in 0..12_000 {
+        let (spoiled, widths) = (round % 2 == 1, if round % 4 < 2 { Widths::One } else { Widths::Two });
+        let asked = Search::new(rng, spoiled, widths);
+        let ours = ours(&asked);
+        let told = || format!("size {}, cube {:?}, entries {:?}, depth {}, moves {:?}, limit {}", asked.n, asked.from, asked.entries, asked.depth, asked.moves, asked.limit);
+        let (crates, ruled) = (asked.crates(), asked.ruled());
+        match (widths, spoiled) {
+            (Widths::One, false) => tally.same("ida_star on built tables, a search each", &crates, &ours, told),
+            (Widths::One, true) => tally.same("ida_star on spoiled tables, a search each", &crates, &ours, told),
+            (Widths::Two, false) => tally.same("ida_star on built tables, two widths of a kind, by the rules, a search each", &ruled, &ours, told),
+            (Widths::Two, true) => tally.same("ida_star on spoiled tables, two widths of a kind, by the rules, a search each", &ruled, &ours, told),
+        }
+        match widths {
+            Widths::One => assert_eq!(crates, ruled, "the crate and the rules, one width a kind"),
+            Widths::Two => otherwise += usize::from(crates != ours),
+        }
+        if asked.admissible {
+            tally.same("ida_star on admissible tables, by all lists, a search each", &asked.foremost(), &ours, told);
+        }
     }
+    otherwise
 }
 
 /// Keys that are alike up to some byte, so that single bytes and whole words decide how they stand.

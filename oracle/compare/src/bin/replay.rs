@@ -306,7 +306,7 @@ fn tables(list: &mut List, rng: &mut Rng) {
 fn searches(list: &mut List, rng: &mut Rng) {
     let mut left = 240;
     while left > 0 {
-        let asked = inputs::Search::new(rng, left % 2 == 1);
+        let asked = inputs::Search::new(rng, left % 2 == 1, inputs::Widths::One);
         let table = entries(&asked.entries);
         let found = asked.crates();
         if table.len() < LONG && (left % 4 < 2 || found.iter().any(|moves| !moves.is_empty())) {
