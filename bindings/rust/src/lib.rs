@@ -350,8 +350,8 @@ pub fn pruning_table(n: usize, starts: &[u8], moves: &[u16], depth: usize, table
     taken(answer, false)
 }
 
-/// Searches for a list of at most `limit` candidates that leads the cube to an entry with number 0: `None`, or the count of moves, which
-/// then are the first of `out`. The work area has `(limit + 1) * 6 * n * n` bytes, the output `limit` slots.
+/// Searches for a list of at most `limit` candidates, no two neighbours of the same kind and width, that leads the cube to an entry with
+/// number 0: `None`, or the count of moves, which then are the first of `out`. The work area has `(limit + 1) * 6 * n * n` bytes, the output `limit` slots.
 ///
 /// ```
 /// # let mut solved = [0u8; 54];
@@ -365,6 +365,21 @@ pub fn pruning_table(n: usize, starts: &[u8], moves: &[u16], depth: usize, table
 /// assert_eq!(cubesim_proved::ida_star(3, &cube, &table, 1, &halves, 2, &mut work, &mut out), Ok(Some(2)));
 /// assert_eq!(out, [2, 22]);
 /// assert_eq!(cubesim_proved::ida_star(3, &cube, &table, 1, &halves, 1, &mut work, &mut out), Ok(None));
+/// # Ok::<(), cubesim_proved::Refusal>(())
+/// ```
+///
+/// Two widths of a kind may be neighbours. A table of the goal alone, at depth 0:
+///
+/// ```
+/// let mut goal = [0u8; 217];
+/// cubesim_proved::solved(6, &mut goal[..216])?;
+/// let (mut cube, mut scramble) = (goal[..216].to_vec(), [0u16; 2]);
+/// cubesim_proved::parse_scramble(6, b"3Uw' 2Uw'", &mut scramble)?;
+/// cubesim_proved::apply_moves(6, &mut cube, &mut [0u8; 216], &scramble)?;
+/// let turns = [153, 154, 155, 217, 218, 219]; // 2Uw and 3Uw
+/// let (mut work, mut out) = ([0u8; 648], [0u16; 2]);
+/// assert_eq!(cubesim_proved::ida_star(6, &cube, &goal, 0, &turns, 2, &mut work, &mut out), Ok(Some(2)));
+/// assert_eq!(out, [153, 217]); // 2Uw 3Uw
 /// # Ok::<(), cubesim_proved::Refusal>(())
 /// ```
 #[allow(clippy::too_many_arguments)]

@@ -18,4 +18,4 @@ pub record Packed {A : Type 0} (number value : A → ℕ) (Result : A → Type 0
 -- the version of the library, as VERSION in the repository's root has it: major·65,536 + minor·256 + patch. It is told as it is, not packed
 -- (tests/version holds the two, the header and the Rust package to each other)
 abbrev pub version : ℕ
-version = 0 * 65536 + 3 * 256 + 1
+version = 0 * 65536 + 4 * 256 + 0

@@ -91,7 +91,7 @@ fn pack_found(k: usize) -> u64
 pub extern "C" fn cubesim_version() -> u64
     ensures { λ r. ⌜ r ≡ version ⌝ }
 {
-    0 * 65536 + 3 * 256 + 1
+    0 * 65536 + 4 * 256 + 0
 }
 
 // The solved cube.
