@@ -1,5 +1,5 @@
 -- Laws of sizes and codes: a code and its move, what a list that is not refused holds, and the walk that finds its refusal.
-use Prim.Native.Nat.{ℕ, suc, _+_, _*_, _/_, _%_, _<_, _≤_}
+use Prim.Native.Nat.{ℕ, suc, _+_, _*_, _/_, _<_, _≤_}
 use mathlib.Core.Path.{_≡_, refl, sym, subst, _∙_}
 use mathlib.Core.Bool.{Bool, true, false, true≢false}
 use mathlib.Core.List.{List, [], _∷_}
@@ -109,16 +109,14 @@ same-joins c d k w = rw (eq-eqb _ _ k, eq-eqb _ _ w)
 pub joins-move : (c d : ℕ) → joins c d ≡ true → moveOf d ≡ withTurn (moveOf c) (moveOf d .turn)
 joins-move c d e = let s = joins-same c d e in move-eq _ _ (sym (s .0)) (sym (s .1)) refl
 
--- how code tells it: without their turns they are equal
-pub joins-is : (c d : ℕ) → eqb (c / 4) (d / 4) ≡ joins c d
-unfolding joins moveOf
-joins-is c d =
-    bool-cases (eqb (c / 4) (d / 4))
-    (λ t. let e : c / 4 ≡ d / 4 = eqb-true _ _ t in rw (t, eq-eqb (c / 4 % 16) (d / 4 % 16) (omega arith), eq-eqb (c / 64) (d / 64) (omega arith)))
-    (λ t. let f : c / 4 ≡ d / 4 → ⊥ = eqb-false _ _ t in
-    bool-cases (eqb (c / 4 % 16) (d / 4 % 16))
-    (λ u. let k : c / 4 % 16 ≡ d / 4 % 16 = eqb-true _ _ u in rw (t, u, ne-eqb (c / 64) (d / 64) (λ e. f (omega arith))))
-    (λ u. rw (t, u)))
+-- how code tells it: kind and width are equal as one number
+pub joins-is : (c d : ℕ) {x y : ℕ} → x ≡ moveOf c .width * 16 + moveOf c .kind → y ≡ moveOf d .width * 16 + moveOf d .kind → eqb x y ≡ joins c d
+joins-is c d {x} {y} e f =
+    let k = kind-most c in
+    let l = kind-most d in
+    bool-cases (eqb x y)
+    (λ t. let z = eqb-true x y t in t ∙ sym (same-joins c d (omega arith) (omega arith)))
+    (λ t. bool-cases (joins c d) (λ u. let s = joins-same c d u in absurd (eqb-false x y t (omega (arith, s .0, s .1)))) (λ u. t ∙ sym u))
 
 pub turned-is : (c t : ℕ) → c / 4 * 4 + t ≡ turnedTo c t
 unfolding turnedTo codeOf moveOf

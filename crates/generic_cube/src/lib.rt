@@ -1,6 +1,6 @@
 // Sizes, move codes and lists of them: generic_cube.rs. This file alone knows how a code is put together.
 ghost use mathlib.Core.Path.{_≡_};
-ghost use Prim.Native.Nat.{_≤_};
+ghost use Prim.Native.Nat.{_+_, _*_, _≤_};
 ghost use Rattle.ground.specs.Choice.{between};
 ghost use Rattle.generic_cube.specs.Sizes.{sized, small, beyond};
 ghost use Rattle.generic_cube.specs.Code.{codeOf, moveOf, turnedTo, isWide, badWidthIn, outside, readCode, refusalIn, listRefusal, joins};
@@ -117,11 +117,18 @@ pub fn is_outside(low: usize, high: usize, width: usize) -> bool
     !is_between(low, high, width)
 }
 
+// A code without its turn: kind and width in one number.
+fn without_turn(c: MoveCode) -> MoveCode
+    ensures { λ r. ⌜ r ≡ moveOf c .width * 16 + moveOf c .kind ⌝ }
+{
+    c / 4
+}
+
 // Whether two neighbours join: they have equal kind and width. The search never makes two such moves in a row.
 pub fn do_join(a: MoveCode, b: MoveCode) -> bool
     ensures { λ r. ⌜ r ≡ joins a b ⌝ }
 {
-    a / 4 == b / 4
+    without_turn(a) == without_turn(b)
 }
 
 // The turn of a code.

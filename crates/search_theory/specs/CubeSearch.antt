@@ -22,8 +22,8 @@ pub record CubeSearch : Type 0 where
 abbrev pub movedBy : ℕ → ℕ → List ℕ → List ℕ
 movedBy n c s = moved n (moveOf c) s
 
--- a move turns the cube; a state's number is the one that the table gives; no two neighbours share both kind and
--- width, as those that join do
+-- a move turns the cube; a state's number is the one that the table gives; no two neighbours share both kind and width,
+-- as moves that join do
 abbrev pub cubeTask : ℕ → List ℕ → ℕ → List ℕ → Task
 cubeTask n table depth candidates =
     record { moved = movedBy n; number = stateNumber (stickers n) table depth; barred = joins; candidates = candidates }
