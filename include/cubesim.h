@@ -120,16 +120,16 @@ uint64_t cubesim_pruning_table(uint64_t n, const uint8_t *starts, size_t starts_
 /* The first list, by iterative deepening up to `limit` moves, that leads the cube to an entry with number 0, no two neighbours of the same
    kind and width. The value is 0 for none, and k + 1 for k moves, which then are the first of `out`. `out` has room for `limit` moves, the work area
    for (limit + 1)*6n² bytes, which are zero afterwards. Refusals 1, 2, 3, 5, 6, 7, 8, 9.
-   examples/c/station.c builds a table and searches with it. A table of the goal alone, at depth 0; then, at size 6, two widths of Uw as
-   neighbours, 2Uw (153) and 3Uw (217):
+   examples/c/station.c builds a table and searches with it. A table of the goal alone, at depth 0; then, at size 6 after 3Uw' 2Uw',
+   two widths of Uw as neighbours, 2Uw (153) and 3Uw (217), each in all turns:
    Example: uint8_t goal[55], c[54], work[108]; const uint16_t moves[] = {1}; uint16_t out[1];
    Example: cubesim_solved(3, goal, 54); goal[54] = 0; cubesim_solved(3, c, 54);
    Example: assert(cubesim_value(cubesim_ida_star(3, c, 54, goal, 55, 0, moves, 1, 1, work, 108, out, 1)) == 1);
    Example: const uint16_t back[] = {3}; cubesim_apply_moves(3, c, 54, work, 54, back, 1);
    Example: assert(cubesim_value(cubesim_ida_star(3, c, 54, goal, 55, 0, moves, 1, 1, work, 108, out, 1)) == 2 && out[0] == 1);
-   Example: uint8_t six[217], s[216], room[648]; const uint16_t scramble[] = {219, 155}, widths[] = {153, 217}; uint16_t two[2];
+   Example: uint8_t six[217], s[216], room[648]; const uint16_t scramble[] = {219, 155}, widths[] = {153, 154, 155, 217, 218, 219}; uint16_t two[2];
    Example: cubesim_solved(6, six, 216); six[216] = 0; cubesim_solved(6, s, 216); cubesim_apply_moves(6, s, 216, room, 216, scramble, 2);
-   Example: assert(cubesim_value(cubesim_ida_star(6, s, 216, six, 217, 0, widths, 2, 2, room, 648, two, 2)) == 3 && two[0] == 153 && two[1] == 217); */
+   Example: assert(cubesim_value(cubesim_ida_star(6, s, 216, six, 217, 0, widths, 6, 2, room, 648, two, 2)) == 3 && two[0] == 153 && two[1] == 217); */
 uint64_t cubesim_ida_star(uint64_t n, const uint8_t *cube, size_t cube_len, const uint8_t *table, size_t table_len, uint64_t depth, const uint16_t *moves, size_t moves_len, uint64_t limit, uint8_t *work, size_t work_len, uint16_t *out, size_t out_len);
 
 #ifdef __cplusplus

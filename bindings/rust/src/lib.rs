@@ -351,7 +351,8 @@ pub fn pruning_table(n: usize, starts: &[u8], moves: &[u16], depth: usize, table
 }
 
 /// Searches for a list of at most `limit` candidates, no two neighbours of the same kind and width, that leads the cube to an entry with
-/// number 0: `None`, or the count of moves, which then are the first of `out`. The work area has `(limit + 1) * 6 * n * n` bytes, the output `limit` slots.
+/// number 0: `None`, or the count of moves, which then are the first of `out`. The work area has `(limit + 1) * 6 * n * n` bytes, the output
+/// `limit` slots.
 ///
 /// ```
 /// # let mut solved = [0u8; 54];

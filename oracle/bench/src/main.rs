@@ -210,7 +210,7 @@ fn named(depth: usize, entries: usize) -> String {
     format!("table of depth {depth}, {} {}", grouped(entries), if entries == 1 { "entry" } else { "entries" })
 }
 
-/// A search of a cube so many moves away, timed per visit; both sides make the same visits.
+/// A search of a cube so many moves away, timed per visit; both sides make the same visits, as face moves have no widths.
 fn visiting(rng: &mut Rng, solver: &Solver, table: &[u8], faces: &[u16], depth: usize, length: usize) {
     let cube = away(rng, solver, length);
     let from = letters(&cube.state());

@@ -17,10 +17,10 @@ use std::time::Instant;
 pub struct Tally(BTreeMap<&'static str, u64>);
 
 impl Tally {
-    pub fn same<T: PartialEq + std::fmt::Debug>(&mut self, kind: &'static str, crates: &T, ours: &T, input: impl Fn() -> String) {
+    pub fn same<T: PartialEq + std::fmt::Debug>(&mut self, kind: &'static str, judge: &T, ours: &T, input: impl Fn() -> String) {
         *self.0.entry(kind).or_insert(0) += 1;
-        if crates != ours {
-            println!("DIFFERENT {kind}: {}\n  the crate: {crates:?}\n  here:      {ours:?}", input());
+        if judge != ours {
+            println!("DIFFERENT {kind}: {}\n  the judge: {judge:?}\n  here:      {ours:?}", input());
             std::process::exit(1);
         }
     }
