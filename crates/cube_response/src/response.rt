@@ -35,7 +35,7 @@ fn turn_solved(n: usize, moves: &[MoveCode], cube: &mut [u8], work: &mut [u8])
     ensures { λ _. ⌜ now (cube .exit) ≡ run n (now (moves .entry)) (solvedCube n) ⌝ }
 {
     facelet_cube::cube::solved(n, cube);
-    facelet_cube::letters::apply_moves(n, cube, work, moves);
+    facelet_letters::apply_moves(n, cube, work, moves);
 }
 
 fn put_cube(n: usize, moves: &[MoveCode], out: &mut [u8]) -> usize

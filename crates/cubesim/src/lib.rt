@@ -144,7 +144,7 @@ pub extern "C" fn cubesim_apply_moves(
 ) -> u64
     ensures { λ r. ⌜ Packed doneNo (λ a. 0) (ApplyMovesResult n (now (cube .entry)) (now (work .entry)) (now (moves .entry)) (now (cube .exit)) (now (work .exit))) r ⌝ }
 {
-    pack_done(facelet_cube::letters::apply_moves(n, cube, work, moves))
+    pack_done(facelet_letters::apply_moves(n, cube, work, moves))
 }
 
 // A list of moves on ids.
@@ -157,7 +157,7 @@ pub extern "C" fn cubesim_apply_moves_to_ids(
 ) -> u64
     ensures { λ r. ⌜ Packed doneNo (λ a. 0) (ApplyMovesResult n (now (ids .entry)) (now (work .entry)) (now (moves .entry)) (now (ids .exit)) (now (work .exit))) r ⌝ }
 {
-    pack_done(facelet_cube::ids::apply_moves(n, ids, work, moves))
+    pack_done(facelet_ids::apply_moves(n, ids, work, moves))
 }
 
 // All moves of a size.

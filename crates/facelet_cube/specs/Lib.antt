@@ -1,4 +1,3 @@
 pub mod Cube
 pub mod Apply
 pub mod Inner
-pub mod InnerLanes

@@ -1,15 +1,13 @@
-// Cubes as lists of stickers, and moves of them: facelet_cube/.
+// Cubes as lists of stickers: facelet_cube/cube.rs. What a list of moves does to one is a definition (specs/Apply.antt), its refusal is here;
+// the code that moves letters is in facelet_letters, the code that moves ids in facelet_ids.
 ghost use mathlib.Core.Path.{_≡_};
 ghost use Rattle.facelet_cube.specs.Apply.{applyRefusal};
 use ground::codes::MoveCode;
 
 pub mod cube;
-pub mod ids;
-pub mod lanes;
-pub mod letters;
 
 // The refusal of a list runner on a cube and a work area of these lengths, 0 for none.
-fn apply_refusal(n: usize, cube: usize, work: usize, moves: &[MoveCode]) -> u8
+pub fn apply_refusal(n: usize, cube: usize, work: usize, moves: &[MoveCode]) -> u8
     ensures { λ r. ⌜ r ≡ applyRefusal n cube work (now (moves .entry)) ⌝ }
 {
     if generic_cube::is_size(n) {

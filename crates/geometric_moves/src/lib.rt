@@ -1,5 +1,5 @@
 // Rotations of the cube, and the face and the layers of a move: geometric_cube/moves.rs. What a move does to a place is a definition
-// (specs/Turn.antt); the code that moves cubes is in facelet_cube.
+// (specs/Turn.antt); the code that moves cubes is in facelet_letters and facelet_ids.
 ghost use mathlib.Core.Path.{_≡_};
 ghost use Prim.Native.Nat.{_<_, _≤_};
 ghost use Rattle.geometric_moves.specs.Turn.{opposite, facing, sameFace, whither, thenRot, inverseRot, turnOf, quarterOf, letterFace, wholeFace, kindFace, layersOf};

@@ -42,7 +42,7 @@ fn turn_level(n: usize, code: MoveCode, work: &mut [u8])
     let s = 6 * n * n;
     let end = s + s;
     ground::bytes::double(s, &mut work[..end]);
-    facelet_cube::letters::apply_move(n, m, &mut work[s..end]);
+    facelet_letters::apply_move(n, m, &mut work[s..end]);
 }
 
 // One visit: the source's `dfs` at this level's cube, with so many moves left. The moves made are the first `len` of the path.

@@ -135,7 +135,7 @@ fn child(
     let Code::Taken(turn) = generic_cube::read_code(moves[i]) else {
         return Stretch::Full;
     };
-    facelet_cube::letters::compute_permutation(n, turn, table::key_at(&table[..], m, at), next);
+    facelet_letters::compute_permutation(n, turn, table::key_at(&table[..], m, at), next);
     enter(table, m, count, &next[..], number, index, classes)
 }
 
