@@ -22,7 +22,7 @@ use Rattle.generic_cube.proofs.CodeLaws.{bounds-sized}
 use Rattle.tokens.specs.Words.{tokensOf}
 use Rattle.scramble_parser.specs.declared.Parsed.{Parsed}
 use Rattle.scramble_parser.specs.declared.Parsed.the-variants.{Moves, Refused, RefusedAt}
-use Rattle.scramble_parser.specs.Parse.{Reading, codes, bad, reading, answerOf, filledBy, parseAnswer, parseOut, ParseResult}
+use Rattle.scramble_parser.specs.Parse.{Reading, codes, bad, reading, answerOf, filledBy, readAnswer, readOut, ParseResult}
 use Rattle.scramble_parser.proofs.ParseLaws.{reading-taken, reading-few}
 use Rattle.geometric_moves.specs.Turn.{run}
 use Rattle.facelet_cube.specs.Apply.{ApplyMovesResult}
@@ -114,11 +114,11 @@ size-taken {n} a = bounds-sized n (a .some) (omega (arith, a .most))
 -- what a parser with room enough answers
 module _ (n : ℕ) (two old new : List ℕ) (s : sized n ≡ true) (h : length two ≤ length old) where
   parsed-is : {r : Parsed} → ParseResult n two old new r → r ≡ answerOf (length old) (reading n (tokensOf two))
-  unfolding parseAnswer
+  unfolding readAnswer
   parsed-is p = p .answered ∙ rw s
 
   filled-is : {r : Parsed} → ParseResult n two old new r → new ≡ filledBy old (reading n (tokensOf two))
-  unfolding parseOut
+  unfolding readOut
   filled-is p = p .written ∙ rw s
 
   moves-of : (r : Reading) (count : ℕ) → reading n (tokensOf two) ≡ r → Moves count ≡ answerOf (length old) r → new ≡ filledBy old r → Read n two new count

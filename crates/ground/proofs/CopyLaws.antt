@@ -34,7 +34,7 @@ module _ {s l : List ℕ} {j : ℕ} (c : Copying s l j) where
       }
 
 -- a part of a list that lies in its first s elements
-part-front : (l : List ℕ) (j n s : ℕ) → s ≤ length l → j + n ≤ s → take n (drop j l) ≡ take n (drop j (take s l))
+pub part-front : (l : List ℕ) (j n s : ℕ) → s ≤ length l → j + n ≤ s → take n (drop j l) ≡ take n (drop j (take s l))
 part-front l j n s h g =
     let head : length (take s l) ≡ s = length-take-le s l h in
     ap (λ k. take n (drop j k)) (sym (take-append-drop s l)) ∙ ap (take n) (drop-append-le j (take s l) (drop s l) (omega arith))

@@ -6,14 +6,22 @@ use native.Mathlib.Omega.{arith}
 use native.Mathlib.Numerals.{add-one}
 use native.Mathlib.Nat.{mul-le-mul-right, suc-mul, add-zero}
 use lib.ListN.{length, getD, take, drop, set, length-append, take-append-drop}
-use lib.Seq.{sets, length-sets, take-suc, take-all, length-take-le}
+use lib.Seq.{sets, length-sets, take-suc, take-all, length-take-le, take-set-le}
 use Rattle.ground.specs.Lists.{each, upFrom}
 use Rattle.ground.specs.Inner.{Put}
 
-sets-append : (a b out : List ℕ) (j : ℕ) → sets out j (a ++ b) ≡ sets (sets out j a) (j + length a) b
+pub sets-append : (a b out : List ℕ) (j : ℕ) → sets out j (a ++ b) ≡ sets (sets out j a) (j + length a) b
 sets-append [] b out j = ap (λ (i : ℕ). sets out i b) (omega arith)
 sets-append (x ∷ a) b out j =
     sets-append a b (set out j x) (suc j) ∙ ap (λ (i : ℕ). sets (sets (set out j x) (suc j) a) i b) (omega arith)
+
+-- what stands before the place of a store stays
+pub sets-front : (vs out : List ℕ) (j : ℕ) → take j (sets out j vs) ≡ take j out
+sets-front vs out j = go vs out j j (omega arith)
+  where
+    go : (vs out : List ℕ) (j i : ℕ) → i ≤ j → take i (sets out j vs) ≡ take i out
+    go [] out j i h = refl
+    go (x ∷ vs) out j i h = go vs (set out j x) (suc j) i (omega arith) ∙ take-set-le i out j x h
 
 pub put-then : {out mid new vs ws : List ℕ} {j r s : ℕ} → Put out j vs mid r → Put mid r ws new s → Put out j (vs ++ ws) new s
 put-then {out} {mid} {new} {vs} {ws} {j} {r} {s} p q =

@@ -12,9 +12,9 @@ use borrow.Author.Tests.{ltb-true, ltb-false, not-false}
 use Rattle.ground.proofs.ChoiceLaws.{bool-cases}
 use Rattle.ground.proofs.RefusalLaws.{passed, pass-lowest}
 use Rattle.generic_cube.specs.Sizes.{sized}
-use Rattle.generic_cube.specs.Code.{moveOf, listRows, listRefusal}
+use Rattle.generic_cube.specs.Code.{moveOf, codeOf, withTurn, refusalIn, listRows, listRefusal}
 use Rattle.generic_cube.proofs.AnswerLaws.{answer-value}
-use Rattle.generic_cube.proofs.CodeLaws.{sized-bounds, list-fair}
+use Rattle.generic_cube.proofs.CodeLaws.{Good, AllGood, taken-good, code-bounds, code-width, turn-most, good-move}
 use Rattle.generic_cube.specs.declared.Answer.the-variants.{Value}
 use Rattle.move_lists.specs.Lists.{simplify, Turned, inverseOf, inverse, sameRows, sameRefusal, SimplifyResult, InvertResult}
 use Rattle.move_lists.specs.Inner.{Shrunk}
@@ -35,14 +35,6 @@ fitting n cs room e =
       list = pass-lowest (listRows n cs) (p .1 .0, (p .1 .1 .0, tt));
       fits = ltb-false _ _ (p .1 .1 .1 .0);
     }
-
-turned-all : (cs : List ℕ) → ((i : ℕ) → i < length cs → 0 < moveOf (getD cs i 0) .turn) → Turned cs
-turned-all [] h = tt
-turned-all (c ∷ cs) h = (h 0 (omega arith), turned-all cs (λ i k. h (suc i) (omega arith)))
-
--- no turn of such a list is 0
-pub fitting-turned : {n : ℕ} {cs : List ℕ} {room : ℕ} → Fitting n cs room → Turned cs
-fitting-turned {n} {cs} g = turned-all cs (λ i h. list-fair n cs (g .list) i (sized-bounds n (g .size) .0) h .some)
 
 pub turned-at : (cs : List ℕ) (i : ℕ) → Turned cs → i < length cs → 0 < moveOf (getD cs i 0) .turn
 turned-at [] i t h = absurd (omega arith)
@@ -90,9 +82,48 @@ getD-inverse (c ∷ cs) j h =
     let e : suc (length cs) - 1 - j ≡ 0 = omega arith in
     getD-at (inverse cs) (inverseOf c) [] 0 j (omega arith) ∙ ap (λ (i : ℕ). inverseOf (getD (c ∷ cs) i 0)) (sym e))
 
+-- the next code of the inverse, from the code that is turned back
+pub inverse-next : (cs : List ℕ) {j v : ℕ} → Turned cs → j < length cs
+    → (0 < moveOf (getD cs (length cs - 1 - j) 0) .turn → v ≡ inverseOf (getD cs (length cs - 1 - j) 0)) → v ≡ getD (inverse cs) j 0
+inverse-next cs {j} t h e = e (turned-at cs (length cs - 1 - j) t (omega arith)) ∙ sym (getD-inverse cs j h)
+
 pub invert-done : (n : ℕ) (cs : List ℕ) {out new : List ℕ} → sameRefusal n cs (length out) ≡ 0 → new ≡ sets out 0 (inverse cs)
     → InvertResult n cs out new (Value (length cs))
 invert-done n cs {out} g w =
     let l = length-inverse cs in
     let r : 0 + length (inverse cs) ≤ length out = omega (arith, fitting n cs (length out) g .fits) in
     answer-value g refl (w ∙ sets-eq (inverse cs) out 0 r ∙ simp zero-add)
+
+-- ---- lists of codes that are taken, and their inverses
+
+module _ (low high : ℕ) where
+  -- another turn of the same kind and width
+  pub good-turn : (c t : ℕ) → 1 ≤ t → t ≤ 3 → Good low high c → Good low high (codeOf (withTurn (moveOf c) t))
+  good-turn c t l h g =
+      good-move low high (withTurn (moveOf c) t) l h (code-bounds c (g .code) .1) (λ w. code-width c (g .code) w) (λ w. rw w at (g .width))
+
+  pub good-append : (xs ys : List ℕ) → AllGood low high xs → AllGood low high ys → AllGood low high (xs ++ ys)
+  unfolding AllGood
+  good-append [] ys g h = h
+  good-append (x ∷ xs) ys g h = (g .0, good-append xs ys (g .1) h)
+
+  pub good-inverse : (cs : List ℕ) → AllGood low high cs → AllGood low high (inverse cs)
+  unfolding inverse inverseOf AllGood
+  good-inverse [] g = tt
+  good-inverse (c ∷ cs) g =
+      let q = code-bounds c (g .0 .code) in
+      let m = turn-most c in
+      good-append (inverse cs) (inverseOf c ∷ []) (good-inverse cs (g .1)) (good-turn c (4 - moveOf c .turn) (omega arith) (omega arith) (g .0), tt)
+
+-- no turn of a list that is taken is 0
+pub good-turned : (low high : ℕ) (cs : List ℕ) → AllGood low high cs → Turned cs
+unfolding AllGood
+good-turned low high [] g = tt
+good-turned low high (c ∷ cs) g = (code-bounds c (g .0 .code) .0, good-turned low high cs (g .1))
+
+pub taken-turned : (n : ℕ) (cs : List ℕ) → listRefusal n cs ≡ 0 → Turned cs
+unfolding listRefusal refusalIn
+taken-turned n cs e = good-turned 1 n cs (taken-good 1 n cs e)
+
+pub fitting-turned : {n : ℕ} {cs : List ℕ} {room : ℕ} → Fitting n cs room → Turned cs
+fitting-turned {n} {cs} g = taken-turned n cs (g .list)

@@ -76,12 +76,11 @@ pub fn simplify_moves(n: usize, list: &[MoveCode], out: &mut [MoveCode]) -> Answ
     Answer::Value(count)
 }
 
-// The turn t becomes 4 - t.
-fn inverse_code(code: MoveCode) -> MoveCode
-    requires { ⌜ 0 < moveOf code .turn ⌝ }
-    ensures { λ r. ⌜ r ≡ inverseOf code ⌝ }
+// The turn t, which is not 0, becomes 4 - t.
+pub fn inverse_code(code: MoveCode) -> MoveCode
+    ensures { λ r. ⌜ (0 < moveOf code .turn → r ≡ inverseOf code) ⌝ }
 {
-    generic_cube::with_turn(code, 4 - generic_cube::turn_of(code))
+    generic_cube::with_turn(code, (4 - generic_cube::turn_of(code)) % 4)
 }
 
 fn invert_into(list: &[MoveCode], out: &mut [MoveCode])

@@ -21,7 +21,7 @@ use Rattle.tokens.specs.declared.Token.{Token}
 use Rattle.tokens.specs.declared.Token.the-variants.{Is, Not}
 use Rattle.tokens.proofs.WordLaws.{words-few}
 use Rattle.tokens.proofs.TokenLaws.{token-good, place-within}
-use Rattle.scramble_parser.specs.Parse.{Reading, codes, bad, ahead, reading, parseAnswer, parseOut, ParseResult}
+use Rattle.scramble_parser.specs.Parse.{Reading, codes, bad, ahead, reading, readAnswer, readOut, ReadResult, scrambleReading, ParseResult}
 use Rattle.scramble_parser.specs.Inner.{tally, upTo, prefix}
 use Rattle.scramble_parser.specs.declared.Parsed.{Parsed}
 use Rattle.scramble_parser.specs.declared.Parsed.the-variants.{Moves, Refused, RefusedAt}
@@ -129,51 +129,57 @@ never-of : (r : Reading) (k : ℕ) → Refused k ≡ tally 0 r → ⊥
 never-of (codes cs) k e = let z : _≡_ {A = ℕ} 0 1 = cc in omega arith
 never-of (bad k′ at) k e = let z : _≡_ {A = ℕ} 0 1 = cc in omega arith
 
-module _ (n : ℕ) (text out : List ℕ) where
-  pub parse-size : sized n ≡ false → ParseResult n text out out (Refused 1)
-  unfolding parseAnswer parseOut
-  parse-size s = record { answered = rw s; written = rw s }
+-- what a reader answers, by what its text reads as
+module _ (n : ℕ) (r : Reading) (out : List ℕ) where
+  pub read-size : sized n ≡ false → ReadResult n r out out (Refused 1)
+  unfolding readAnswer readOut
+  read-size s = record { answered = rw s; written = rw s }
 
   module _ (s : sized n ≡ true) where
-    -- whatever the first pass answers but a count is the answer
-    pub parse-bad : (r : Parsed) → r ≡ tally 0 (reading n (tokensOf text)) → ((count : ℕ) → r ≡ Moves count → ⊥) → ParseResult n text out out r
-    unfolding parseAnswer parseOut
-    parse-bad (Moves count) e z = absurd (z count refl)
-    parse-bad (Refused k) e z = absurd (never-of (reading n (tokensOf text)) k e)
-    parse-bad (RefusedAt k at) e z =
-        let b = bad-of (reading n (tokensOf text)) k at e in
-        record { answered = simp (s, b); written = simp (s, b) }
+    pub read-bad : {k at : ℕ} → r ≡ bad k at → ReadResult n r out out (RefusedAt k at)
+    unfolding readAnswer readOut
+    read-bad b = record { answered = simp (s, b); written = simp (s, b) }
 
-    module _ {count : ℕ} (e : Moves count ≡ tally 0 (reading n (tokensOf text))) where
-      pub parse-short : length out < count → ParseResult n text out out (Refused 6)
-      unfolding parseAnswer parseOut
-      parse-short h =
-          let g = good-of (reading n (tokensOf text)) count e in
-          let l : ltb (length out) (length (g .0)) ≡ true = lt-ltb (length out) (length (g .0)) (omega arith) in
-          record { answered = simp (s, g .1, l); written = simp (s, g .1, l) }
+    module _ {cs : List ℕ} (g : r ≡ codes cs) where
+      pub read-short : length out < length cs → ReadResult n r out out (Refused 6)
+      unfolding readAnswer readOut
+      read-short h =
+          let l = lt-ltb (length out) (length cs) h in
+          record { answered = simp (s, g, l); written = simp (s, g, l) }
 
-      module _ (h : count ≤ length out) where
-        pub parse-room : length (prefix n (tokensOf text)) ≤ length out
-        parse-room =
-            let g = good-of (reading n (tokensOf text)) count e in
-            rw (prefix-codes n (tokensOf text) (g .0) (g .1)) (omega arith)
+      pub read-good : {new : List ℕ} {count : ℕ} → length cs ≤ length out → count ≡ length cs → new ≡ sets out 0 cs → ReadResult n r out new (Moves count)
+      unfolding readAnswer readOut
+      read-good h c w =
+          let l = le-ltb (length out) (length cs) h in
+          record { answered = ap Moves c ∙ sym (simp (s, g, l)); written = w ∙ sets-eq cs out 0 (omega arith) ∙ simp (s, g, l, zero-add) }
 
-        pub parse-good : {new : List ℕ} → new ≡ sets out 0 (prefix n (tokensOf text)) → ParseResult n text out new (Moves count)
-        unfolding parseAnswer parseOut
-        parse-good w =
-            let g = good-of (reading n (tokensOf text)) count e in
-            let p = prefix-codes n (tokensOf text) (g .0) (g .1) in
-            let l : ltb (length out) (length (g .0)) ≡ false = le-ltb (length out) (length (g .0)) (omega arith) in
-            let r : 0 + length (g .0) ≤ length out = omega arith in
-            record {
-              answered = ap Moves (sym (g .2)) ∙ sym (simp (s, g .1, l));
-              written = w ∙ ap (λ (cs : List ℕ). sets out 0 cs) p ∙ sets-eq (g .0) out 0 r ∙ simp (s, g .1, l, zero-add);
-            }
+module _ (n : ℕ) (text out : List ℕ) (s : sized n ≡ true) where
+  -- whatever the first pass answers but a count is the answer
+  pub parse-bad : (p : Parsed) → p ≡ tally 0 (scrambleReading n text) → ((count : ℕ) → p ≡ Moves count → ⊥) → ParseResult n text out out p
+  parse-bad (Moves count) e z = absurd (z count refl)
+  parse-bad (Refused k) e z = absurd (never-of (scrambleReading n text) k e)
+  parse-bad (RefusedAt k at) e z = read-bad n (scrambleReading n text) out s (bad-of (scrambleReading n text) k at e)
+
+  module _ {count : ℕ} (e : Moves count ≡ tally 0 (scrambleReading n text)) where
+    found-codes : (cs : List ℕ) × (scrambleReading n text ≡ codes cs) × (length cs ≡ count)
+    found-codes = good-of (scrambleReading n text) count e
+
+    pub parse-short : length out < count → ParseResult n text out out (Refused 6)
+    parse-short h = let g = found-codes in read-short n (scrambleReading n text) out s (g .1) (omega arith)
+
+    module _ (h : count ≤ length out) where
+      pub parse-room : length (prefix n (tokensOf text)) ≤ length out
+      parse-room = let g = found-codes in rw (prefix-codes n (tokensOf text) (g .0) (g .1)) (omega arith)
+
+      pub parse-good : {new : List ℕ} → new ≡ sets out 0 (prefix n (tokensOf text)) → ParseResult n text out new (Moves count)
+      parse-good w =
+          let g = found-codes in
+          read-good n (scrambleReading n text) out s (g .1) (omega arith) (sym (g .2)) (w ∙ ap (sets out 0) (prefix-codes n (tokensOf text) (g .0) (g .1)))
 
 -- ---- the codes of a text that is accepted
 
 -- a width that the notation takes is one that is applied
-good-wider : (n c : ℕ) → Good 2 (n - 1) c → Good 1 n c
+pub good-wider : (n c : ℕ) → Good 2 (n - 1) c → Good 1 n c
 good-wider n c g =
     record {
       code = g .code;

@@ -40,16 +40,27 @@ filledBy out (bad k at) = out
 filledBy out (codes cs) = pick (ltb (length out) (length cs)) out (over cs out)
 
 -- 1: the size, before all else
-unfoldable pub parseAnswer : ℕ → List ℕ → ℕ → Parsed
-parseAnswer n text room = pick (sized n) (answerOf room (reading n (tokensOf text))) (Refused 1)
+unfoldable pub readAnswer : ℕ → Reading → ℕ → Parsed
+readAnswer n r room = pick (sized n) (answerOf room r) (Refused 1)
 
-unfoldable pub parseOut : ℕ → List ℕ → List ℕ → List ℕ
-parseOut n text out = pick (sized n) (filledBy out (reading n (tokensOf text))) out
+unfoldable pub readOut : ℕ → Reading → List ℕ → List ℕ
+readOut n r out = pick (sized n) (filledBy out r) out
+
+-- what a reader answers and leaves in its output, for a text that reads as r
+pub record ReadResult (n : ℕ) (r : Reading) (out out′ : List ℕ) (p : Parsed) : Type 0 where
+  pub answered : p ≡ readAnswer n r (length out)
+  pub written : out′ ≡ readOut n r out
+
+-- what a scramble's text reads as
+abbrev pub scrambleReading : ℕ → List ℕ → Reading
+scrambleReading n text = reading n (tokensOf text)
+
+abbrev pub parseAnswer : ℕ → List ℕ → ℕ → Parsed
+parseAnswer n text room = readAnswer n (scrambleReading n text) room
 
 -- what `parse_scramble` answers and leaves in its output
-pub record ParseResult (n : ℕ) (text out out′ : List ℕ) (r : Parsed) : Type 0 where
-  pub answered : r ≡ parseAnswer n text (length out)
-  pub written : out′ ≡ parseOut n text out
+abbrev pub ParseResult : ℕ → List ℕ → List ℕ → List ℕ → Parsed → Type 0
+ParseResult n text out out′ p = ReadResult n (scrambleReading n text) out out′ p
 
 -- the rules' number of each case, 0 where nothing is refused
 abbrev pub parsedNo : Parsed → ℕ

@@ -35,7 +35,8 @@ use Rattle.table_level.proofs.SizeLaws.{cube-some}
 use Rattle.pruning_table.specs.PruningTable.{earlyRows, earlyRefusal, outnumbered, pruningOut, PruningTableResult}
 use Rattle.pruning_table.proofs.ResultLaws.{early-ready, refusal-early, refusal-late}
 use Rattle.theorems.specs.Searching.{BuiltIsExact, OneTable, BuiltIsFormed, FullExactly, BuiltOtherwise, FullIsZero, RefusedIsKept, SameMembers, UndoneBy, UndoThemselves, holdsInverses, InversesUndo, WideOneUndoes, BuiltAdmits}
-use Rattle.theorems.proofs.EffectLaws.{code-undone, taken-turned, plain-is-wide}
+use Rattle.theorems.proofs.EffectLaws.{code-undone, plain-is-wide}
+use Rattle.move_lists.proofs.ListLaws.{taken-turned}
 
 -- a number that no row has is not answered
 abbrev avoids : ℕ → List Row → Bool

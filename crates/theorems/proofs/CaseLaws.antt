@@ -9,12 +9,12 @@ use Rattle.generic_cube.specs.StickerIndex.{stickerRefusal, stickerIndex}
 use Rattle.move_lists.specs.Lists.{push, simplify}
 use Rattle.tokens.specs.Token.{digitOf, isDigit, digitsOf, numberOf, tokenWidth, letterOf, isWideToken, plainKind, markOf, suffixAt, tokenMove, badDigits, noLetter, noW, bytesLeft, badTokenWidth, unlessFault, readBehind, readToken}
 use Rattle.tokens.specs.Words.{isSpace, isSign, endsWord, wordBytes, words}
-use Rattle.scramble_parser.specs.Parse.{reading, parseAnswer}
+use Rattle.scramble_parser.specs.Parse.{reading, readAnswer}
 use Rattle.geometric_moves.specs.Turn.{sameFace, whither, inverseRot, turnOf, quarterOf, kindFace, layersOf, takes, target, source, moved, run}
 use Rattle.theorems.specs.Cases.{Cases}
 
 pub cases : Cases
-unfolding between position any tabulate lowest sized codeOf moveOf turnedTo outside joins stickerRefusal stickerIndex sameFace whither inverseRot turnOf quarterOf kindFace layersOf takes target source moved run digitOf isDigit digitsOf numberOf tokenWidth letterOf isWideToken plainKind markOf suffixAt tokenMove badDigits noLetter noW bytesLeft badTokenWidth unlessFault readBehind readToken isSpace isSign endsWord wordBytes words reading parseAnswer push simplify
+unfolding between position any tabulate lowest sized codeOf moveOf turnedTo outside joins stickerRefusal stickerIndex sameFace whither inverseRot turnOf quarterOf kindFace layersOf takes target source moved run digitOf isDigit digitsOf numberOf tokenWidth letterOf isWideToken plainKind markOf suffixAt tokenMove badDigits noLetter noW bytesLeft badTokenWidth unlessFault readBehind readToken isSpace isSign endsWord wordBytes words reading readAnswer push simplify
 cases = record {
   r2 = refl;
   uw = refl;

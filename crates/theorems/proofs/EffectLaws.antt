@@ -9,10 +9,11 @@ use lib.ListN.{length}
 use borrow.Author.Tests.{eqb-true, eqb-false}
 use Rattle.ground.proofs.ChoiceLaws.{bool-cases}
 use Rattle.generic_cube.specs.Sizes.{stickers}
-use Rattle.generic_cube.specs.Code.{moveOf, withTurn, back, joins, refusalIn, listRefusal}
-use Rattle.generic_cube.proofs.CodeLaws.{kind-most, turn-most, move-code, move-turned, joins-move, code-bounds, AllGood, taken-good}
+use Rattle.generic_cube.specs.Code.{moveOf, withTurn, back, joins, listRefusal}
+use Rattle.generic_cube.proofs.CodeLaws.{kind-most, turn-most, move-code, move-turned, joins-move}
 use Rattle.move_lists.specs.Lists.{turnSum, joined, join, Turned, Step, here, there, Steps, done, then, inverseOf, inverse}
 use Rattle.move_lists.proofs.SimplifyLaws.{join-vanish, join-stay}
+use Rattle.move_lists.proofs.ListLaws.{taken-turned}
 use Rattle.geometric_moves.specs.Turn.{kindFace, layersOf, takes, target, source, moved, run}
 use Rattle.geometric_moves.proofs.MovedLaws.{length-moved, moved-add, moved-none, moved-back, run-append}
 use Rattle.theorems.specs.Effects.{SimplifyKeeps, InverseUndoes, PlainIsWide}
@@ -69,16 +70,6 @@ module _ (n : ℕ) (h : 0 < n) where
       run-append n (inverse cs) (inverseOf c ∷ []) (run n cs (moved n (moveOf c) l))
       ∙ ap (moved n (moveOf (inverseOf c))) (run-inverse cs (moved n (moveOf c) l) (t .1) (length-moved n (moveOf c) l))
       ∙ code-undone c l (t .0) g
-
--- no turn of a list that is taken is 0
-good-turned : (low high : ℕ) (cs : List ℕ) → AllGood low high cs → Turned cs
-unfolding AllGood
-good-turned low high [] g = tt
-good-turned low high (c ∷ cs) g = (code-bounds c (g .0 .code) .0, good-turned low high cs (g .1))
-
-pub taken-turned : (n : ℕ) (cs : List ℕ) → listRefusal n cs ≡ 0 → Turned cs
-unfolding listRefusal refusalIn
-taken-turned n cs e = good-turned 1 n cs (taken-good 1 n cs e)
 
 pub simplify-keeps : SimplifyKeeps
 simplify-keeps n cs cube h g = sym (steps-effect n h (reached cs) cube g)

@@ -23,7 +23,7 @@ use Rattle.tokens.specs.Words.{isSpace, endsWord, wordBytes, words}
 use Rattle.tokens.proofs.WordLaws.{words-word}
 use Rattle.scramble_writer.specs.Write.{textOf, restText, listText, writeRefusal}
 use Rattle.scramble_writer.proofs.WriteLaws.{write-fits}
-use Rattle.scramble_parser.specs.Parse.{codes, ahead, reading, parseAnswer, parseOut}
+use Rattle.scramble_parser.specs.Parse.{codes, ahead, reading, readAnswer, readOut}
 use Rattle.theorems.specs.Notation.{RoundTrips, ReadsBack, ExactRoom}
 use Rattle.theorems.proofs.GrammarLaws.{accepts}
 use Rattle.theorems.proofs.WriterLaws.{text-spelled, shaped-some, shaped-word}
@@ -72,7 +72,7 @@ value-zero j k count e =
     (λ t. let q : Value k ≡ Refused j = rw t at e in let y : _≡_ {A = ℕ} 0 1 = cc in absurd (omega arith))
 
 pub reads-back : ReadsBack
-unfolding parseAnswer parseOut
+unfolding readAnswer readOut
 reads-back n k cs text text′ out out′ r w p h =
     let z = value-zero (writeRefusal n cs (length text)) k (length (listText cs)) (w .answered) in
     let f = write-fits n cs (length text) (z .0) in

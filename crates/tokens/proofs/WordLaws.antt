@@ -1,5 +1,5 @@
 -- Laws of words: one byte on, the walk over spaces, the walk over a word, and how many there are.
-use Prim.Native.Nat.{ℕ, suc, _+_, _-_, _≤_, _<_}
+use Prim.Native.Nat.{ℕ, zero, suc, _+_, _-_, _^_, _/_, _%_, _≤_, _<_}
 use mathlib.Core.Path.{_≡_, refl, sym, ap, _∙_, subst}
 use mathlib.Core.Bool.{Bool, true, false, true≢false}
 use mathlib.Core.List.{List, [], _∷_, _++_, append-assoc, append-nil}
@@ -7,12 +7,32 @@ use native.Mathlib.Omega.{arith}
 use native.Mathlib.Numerals.{add-one}
 use lib.ListN.{length, getD, take, drop, length-drop, drop-of-length-le}
 use lib.Seq.{drop-cons, take-suc, getD-drop}
-use Rattle.ground.specs.Choice.{any}
-use Rattle.ground.proofs.ChoiceLaws.{bool-cases}
-use Rattle.tokens.specs.Words.{isSpace, isSign, endsWord, Run, wordBytes, words, wordsFrom}
+use lib.Dec.{ltb, eqb}
+use borrow.Author.Tests.{eqb-true}
+use Rattle.ground.specs.Choice.{pick, any}
+use Rattle.ground.proofs.ChoiceLaws.{bool-cases, less-cases, anyBelow, tested}
+use Rattle.tokens.specs.Words.{isSpace, groupSigns, isSign, endsWord, Run, wordBytes, words, wordsFrom}
 use Rattle.tokens.specs.Inner.{Skipped, Found, Ahead}
 use Rattle.tokens.specs.declared.Next.{Next}
 use Rattle.tokens.specs.declared.Next.the-variants.{End, Word}
+
+-- ---- the signs of groups
+
+-- the way to a sign by the code: a bit for each byte, from ( on
+unfoldable pub signBits : ℕ
+signBits = 11258999068688403
+
+abbrev pub signAt : ℕ → ℕ
+signAt b = signBits / 2 ^ (b - 40) % 2
+
+unfoldable pub signBit : ℕ → ℕ
+signBit b = pick (ltb b 40) 0 (pick (ltb 93 b) 0 (signAt b))
+
+pub sign-by : (b : ℕ) → b < 256 → eqb (signBit b) 1 ≡ isSign groupSigns b
+unfolding signBits signBit isSign any anyBelow
+sign-by b h =
+    let e : signBit b ≡ pick (isSign groupSigns b) 1 0 = eqb-true _ _ (tested (λ x. eqb (signBit x) (pick (isSign groupSigns x) 1 0)) 256 refl b h) in
+    ap (λ (k : ℕ). eqb k 1) e ∙ bool-cases (isSign groupSigns b) (λ t. rw t) (λ t. rw t)
 
 -- ---- words, one byte on
 
@@ -168,6 +188,31 @@ module _ (signs text : List ℕ) (i : ℕ) {r : Next} where
 
   pub none-left : r ≡ End → Ahead signs text i r → wordsFrom signs text i ≡ []
   none-left p a = subst (λ (x : Next). Ahead signs text i x) p a
+
+-- ---- from every place on there is a word, or none is left
+
+module _ {ℓ} {A : Type ℓ} (signs text : List ℕ) (i : ℕ) where
+  -- the word that starts at j ends somewhere
+  some-end : (m : ℕ) {j e : ℕ} → length text - e ≤ m → InWord signs text j e → ((d : ℕ) → Found signs text j j d → A) → A
+  some-end zero {j} {e} h w f = f e (word-all w (omega (arith, w .most)))
+  some-end (suc m) {j} {e} h w f =
+      less-cases e (length text)
+      (λ l. bool-cases (endsWord signs (getD text e 0)) (λ t. f e (word-stop w l t)) (λ t. some-end m (omega arith) (word-more w l t) f))
+      (λ l. f e (word-all w l))
+
+  some-word : (m j : ℕ) → length text - j ≤ m → Skipping text i j → (wordsFrom signs text i ≡ [] → A) → ((s e : ℕ) → Found signs text i s e → A) → A
+  some-word zero j h g f k = f (skip-end signs (skip-all g (omega (arith, g .within))) (omega (arith, g .within)))
+  some-word (suc m) j h g f k =
+      less-cases j (length text)
+      (λ l. bool-cases (isSpace (getD text j 0))
+      (λ t. some-word m (j + 1) (omega arith) (skip-more g l t) f k)
+      (λ t. bool-cases (isSign signs (getD text j 0))
+      (λ u. k j (j + 1) (skip-found (skip-stop g t) (word-sign l t u)))
+      (λ u. some-end (length text) (omega arith) (word-one l t u) (λ e d. k j e (skip-found (skip-stop g t) d)))))
+      (λ l. f (skip-end signs (skip-all g l) l))
+
+  pub first-word : i ≤ length text → (wordsFrom signs text i ≡ [] → A) → ((s e : ℕ) → Found signs text i s e → A) → A
+  first-word h f k = some-word (length text) i (omega arith) (skip-none h) f k
 
 -- ---- a word in front of a space or of the end
 

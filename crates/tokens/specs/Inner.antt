@@ -1,15 +1,20 @@
 -- Inner contracts: what the walks over a text and over a token ask and tell.
 use Prim.Native.Nat.{ℕ, _-_, _<_, _≤_}
 use mathlib.Core.Path.{_≡_}
-use mathlib.Core.Bool.{false}
+use mathlib.Core.Bool.{Bool, true, false}
 use mathlib.Core.List.{List, [], _∷_}
 use lib.ListN.{length, getD, take, drop}
 use Rattle.tokens.specs.Token.{letterAt, badDigits, noLetter}
-use Rattle.tokens.specs.Words.{isSpace, wordsFrom}
+use Rattle.tokens.specs.Words.{isSpace, groupSigns, wordsFrom}
 use Rattle.tokens.specs.declared.Next.{Next}
 use Rattle.tokens.specs.declared.Next.the-variants.{End, Word}
 
 -- ---- words
+
+-- the signs of a text with groups, and of one without
+abbrev pub signsOf : Bool → List ℕ
+signsOf true = groupSigns
+signsOf false = []
 
 -- the place i was moved to r over spaces
 pub record Skipped (text : List ℕ) (i r : ℕ) : Type 0 where

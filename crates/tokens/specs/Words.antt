@@ -11,6 +11,10 @@ use Rattle.ground.specs.Choice.{pick, between, any}
 unfoldable pub isSpace : ℕ → Bool
 isSpace b = eqb b 32 || between 9 13 b
 
+-- the signs of groups: ( ) [ ] , :
+abbrev pub groupSigns : List ℕ
+groupSigns = 40 ∷ 41 ∷ 91 ∷ 93 ∷ 44 ∷ 58 ∷ []
+
 unfoldable pub isSign : List ℕ → ℕ → Bool
 isSign signs b = any (λ s. eqb s b) signs
 

@@ -30,7 +30,7 @@ pub enum Next {
 }
 
 // The byte at i, 0 past the end.
-fn at(t: &[u8], i: usize) -> u8
+pub fn at(t: &[u8], i: usize) -> u8
     ensures { λ r. ⌜ r ≡ getD (now (t .entry)) i 0 ⌝ }
 {
     if i < t.len() {

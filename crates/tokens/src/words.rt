@@ -3,8 +3,8 @@ ghost use mathlib.Core.List.{[]};
 ghost use mathlib.Core.Bool.{false};
 ghost use Prim.Native.Nat.{_<_, _≤_};
 ghost use lib.ListN.{length, getD};
-ghost use Rattle.tokens.specs.Words.{isSpace, isSign, endsWord};
-ghost use Rattle.tokens.specs.Inner.{Skipped, Found, Ahead};
+ghost use Rattle.tokens.specs.Words.{isSpace, groupSigns, isSign, endsWord};
+ghost use Rattle.tokens.specs.Inner.{signsOf, Skipped, Found, Ahead};
 use crate::Next;
 
 // The bytes that part tokens.
@@ -20,28 +20,40 @@ fn is_space(b: u8) -> bool
     b <= 13
 }
 
-// Whether a byte is one of the signs.
-fn is_sign(signs: &[u8], b: u8) -> bool
-    ensures { λ r. ⌜ r ≡ isSign (now (signs .entry)) b ⌝ }
+// The signs of groups by their bytes, from `(` on, a bit each. A list would be walked anew for each byte.
+const SIGNS: u64 = 11258999068688403;
+
+// Whether a byte is one of the signs of groups: ( ) [ ] , :
+pub fn is_group_sign(b: u8) -> bool
+    ensures { λ r. ⌜ r ≡ isSign groupSigns b ⌝ }
 {
-    let mut i = 0;
-    while i < signs.len() {
-        if signs[i] == b {
-            return true;
-        }
-        i += 1;
+    if b < 40 {
+        return false;
+    }
+    if 93 < b {
+        return false;
+    }
+    (SIGNS >> (b - 40)) % 2 == 1
+}
+
+// Whether a byte is a sign, in a text with groups or in one without.
+fn is_sign(grouped: bool, b: u8) -> bool
+    ensures { λ r. ⌜ r ≡ isSign (signsOf grouped) b ⌝ }
+{
+    if grouped {
+        return is_group_sign(b);
     }
     false
 }
 
 // Whether a byte ends the word before it.
-fn ends_word(signs: &[u8], b: u8) -> bool
-    ensures { λ r. ⌜ r ≡ endsWord (now (signs .entry)) b ⌝ }
+fn ends_word(grouped: bool, b: u8) -> bool
+    ensures { λ r. ⌜ r ≡ endsWord (signsOf grouped) b ⌝ }
 {
     if is_space(b) {
         return true;
     }
-    is_sign(signs, b)
+    is_sign(grouped, b)
 }
 
 // The first place from i on that holds no space.
@@ -61,16 +73,16 @@ fn skip(text: &[u8], i: usize) -> usize
 }
 
 // The end of the word that starts at i: a sign is a word of its own.
-fn word_end(signs: &[u8], text: &[u8], i: usize) -> usize
+fn word_end(grouped: bool, text: &[u8], i: usize) -> usize
     requires { ⌜ (i < length (now text)) × (isSpace (getD (now text) i 0) ≡ false) ⌝ }
-    ensures { λ r. ⌜ Found (now (signs .entry)) (now (text .entry)) i i r ⌝ }
+    ensures { λ r. ⌜ Found (signsOf grouped) (now (text .entry)) i i r ⌝ }
 {
-    if is_sign(signs, text[i]) {
+    if is_sign(grouped, text[i]) {
         return i + 1;
     }
     let mut e = i + 1;
     while e < text.len() {
-        if ends_word(signs, text[e]) {
+        if ends_word(grouped, text[e]) {
             return e;
         }
         e += 1;
@@ -78,14 +90,14 @@ fn word_end(signs: &[u8], text: &[u8], i: usize) -> usize
     e
 }
 
-// The first word from i on.
-pub fn next_word(signs: &[u8], text: &[u8], i: usize) -> Next
+// The first word from i on, in a text with groups or in one without.
+pub fn next_word(grouped: bool, text: &[u8], i: usize) -> Next
     requires { ⌜ i ≤ length (now text) ⌝ }
-    ensures { λ r. ⌜ Ahead (now (signs .entry)) (now (text .entry)) i r ⌝ }
+    ensures { λ r. ⌜ Ahead (signsOf grouped) (now (text .entry)) i r ⌝ }
 {
     let start = skip(text, i);
     if start < text.len() {
-        let end = word_end(signs, text, start);
+        let end = word_end(grouped, text, start);
         return Next::Word { start, end };
     }
     Next::End
@@ -96,5 +108,5 @@ pub fn next_token(text: &[u8], i: usize) -> Next
     requires { ⌜ i ≤ length (now text) ⌝ }
     ensures { λ r. ⌜ Ahead [] (now (text .entry)) i r ⌝ }
 {
-    next_word(&text[0..0], text, i)
+    next_word(false, text, i)
 }

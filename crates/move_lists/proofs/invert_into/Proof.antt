@@ -1,13 +1,14 @@
 -- `invert_into`: the first j codes of the inverse are stored.
 use Prim.Native.Nat.{_-_}
-use mathlib.Core.Path.{refl, sym, ap, _∙_}
+use mathlib.Core.Path.{refl, ap, _∙_}
 use mathlib.Core.List.{[], _∷_}
 use lib.ListN.{length}
 use lib.Seq.{sets}
 use Rattle.ground.proofs.PutLaws.{Looped, loop-none, loop-more, loop-all, put-one, put-length, each-self}
 use Rattle.move_lists.specs.Lists.{inverse}
-use Rattle.move_lists.proofs.ListLaws.{turned-at, length-inverse, getD-inverse}
+use Rattle.move_lists.proofs.ListLaws.{length-inverse, inverse-next}
 use native.Mathlib.Omega.{arith}
+use borrow.Author.Needs.{needs}
 use Rattle.move_lists.proofs.invert_into.Statement.{statement}
 use Rattle.move_lists.proofs.invert_into.Tie as tie
 
@@ -33,7 +34,7 @@ shared-slice-read-inverse-code : tie.Need-shared-slice-read-inverse-code Inv-loo
 shared-slice-read-inverse-code c = omega arith
 
 inverse-code-requires : tie.Need-inverse-code-requires Inv-loop μ-loop
-inverse-code-requires c κs = turned-at (c .before .before .before .before .before .args .list .now) _ (c .before .before .before .before .before .pre .1) (omega arith)
+inverse-code-requires c κs = search needs
 
 mul-out : tie.Need-mul-out Inv-loop μ-loop
 mul-out c = omega arith
@@ -51,7 +52,8 @@ loop-again : tie.Need-loop-again Inv-loop μ-loop
 loop-again c =
     let list = c .before .before .before .before .before .before .args .list .now in
     let l = length-inverse list in
-    loop-more (c .before .before .before .loop .inv) (omega arith) refl (put-one (c .inverse-code .ensures ∙ sym (getD-inverse list _ (c .before .before .loop-test .taken))))
+    loop-more (c .before .before .before .loop .inv) (omega arith) refl
+    (put-one (inverse-next list (c .before .before .before .before .before .before .pre .1) (c .before .before .loop-test .taken) (c .inverse-code .ensures)))
 
 same-length : tie.Need-same-length Inv-loop μ-loop
 same-length c = put-length (c .before .loop .inv .put)

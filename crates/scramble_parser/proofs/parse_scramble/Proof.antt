@@ -8,7 +8,7 @@ use Rattle.tokens.specs.Words.{tokensOf}
 use Rattle.scramble_parser.specs.Parse.{reading}
 use Rattle.scramble_parser.specs.declared.Parsed.the-variants.{Moves}
 use Rattle.scramble_parser.specs.Inner.{tally}
-use Rattle.scramble_parser.proofs.ParseLaws.{parse-size, parse-bad, parse-short, parse-room, parse-good}
+use Rattle.scramble_parser.proofs.ParseLaws.{read-size, parse-bad, parse-short, parse-room, parse-good}
 use borrow.Author.Needs.{needs}
 use Rattle.scramble_parser.proofs.parse_scramble.Statement.{statement}
 use Rattle.scramble_parser.proofs.parse_scramble.Tie as tie
@@ -47,7 +47,7 @@ returns-3 : tie.Need-returns-3
 returns-3 c = parse-good _ _ _ (fine (c .before .before .before .before .before .before .before .before .before)) (count (c .before .before .before .before .before .before)) (c .before .before .before .before .if2 .left) (c .before .before .write-moves .ensures)
 
 returns-4 : tie.Need-returns-4
-returns-4 c = parse-size _ _ _ (sym (c .before .is-size .ensures) ∙ c .if1 .left)
+returns-4 c = read-size _ _ _ (sym (c .before .is-size .ensures) ∙ c .if1 .left)
 
 pub parse-scramble-spec : {M : Type 1} → statement M
 parse-scramble-spec =

@@ -3,15 +3,16 @@ use Prim.Native.Nat.{_-_}
 use mathlib.Core.Path.{sym, _∙_}
 use native.Mathlib.Omega.{arith}
 use lib.ListN.{length}
+use Rattle.tokens.specs.Inner.{signsOf}
 use Rattle.tokens.proofs.WordLaws.{InWord, word-one, word-more, word-stop, word-all, word-sign}
 use Rattle.tokens.proofs.words.word_end.Statement.{statement}
 use Rattle.tokens.proofs.words.word_end.Tie as tie
 
 abbrev Inv-loop : tie.InvT-loop
-Inv-loop signs text i e₀ e = InWord signs text i e
+Inv-loop grouped text i e₀ e = InWord (signsOf grouped) text i e
 
 abbrev μ-loop : tie.MeasureT-loop
-μ-loop signs text i e₀ e = length text - e
+μ-loop grouped text i e₀ e = length text - e
 
 shared-slice-read-is-sign : tie.Need-shared-slice-read-is-sign Inv-loop μ-loop
 shared-slice-read-is-sign c = omega arith
@@ -23,13 +24,13 @@ add-result : tie.Need-add-result Inv-loop μ-loop
 add-result c = omega arith
 
 returns : tie.Need-returns Inv-loop μ-loop
-returns c = word-sign (c .before .before .before .before .before .pre .0) (c .before .before .before .before .before .pre .1) (sym (c .before .is-sign .ensures) ∙ c .if1 .taken)
+returns c = word-sign (c .before .before .before .before .pre .0) (c .before .before .before .before .pre .1) (sym (c .before .is-sign .ensures) ∙ c .if1 .taken)
 
 add-e : tie.Need-add-e Inv-loop μ-loop
 add-e c = omega arith
 
 loop-holds : tie.Need-loop-holds Inv-loop μ-loop
-loop-holds c = word-one (c .before .before .before .before .before .pre .0) (c .before .before .before .before .before .pre .1) (sym (c .before .is-sign .ensures) ∙ c .if1 .left)
+loop-holds c = word-one (c .before .before .before .before .pre .0) (c .before .before .before .before .pre .1) (sym (c .before .is-sign .ensures) ∙ c .if1 .left)
 
 shared-slice-read-ends-word : tie.Need-shared-slice-read-ends-word Inv-loop μ-loop
 shared-slice-read-ends-word c = omega arith
