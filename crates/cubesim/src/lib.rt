@@ -7,6 +7,7 @@ ghost use Rattle.generic_cube.specs.StickerIndex.{stickerRefusal, stickerIndex}
 ghost use Rattle.move_lists.specs.Lists.{SimplifyResult, InvertResult};
 ghost use Rattle.scramble_writer.specs.Write.{WriteResult};
 ghost use Rattle.scramble_parser.specs.Parse.{ParseResult, parsedNo, parsedValue};
+ghost use Rattle.algorithm_parser.specs.Groups.{AlgorithmResult};
 ghost use Rattle.facelet_cube.specs.Apply.{ApplyMovesResult};
 ghost use Rattle.facelet_cube.specs.Cube.{verdict, verdictNo, verdictValue, SolvedResult, SolvedIdsResult, MaskResult};
 ghost use Rattle.pruning_table.specs.PruningTable.{PruningTableResult};
@@ -174,6 +175,14 @@ pub extern "C" fn cubesim_parse_scramble(n: usize, text: &[u8], out: &mut [MoveC
     ensures { λ r. ⌜ Packed parsedNo parsedValue (ParseResult n (now (text .entry)) (now (out .entry)) (now (out .exit))) r ⌝ }
 {
     pack_parsed(scramble_parser::parse_scramble(n, text, out))
+}
+
+// Reads an algorithm with groups, and expands them.
+#[no_mangle]
+pub extern "C" fn cubesim_parse_algorithm(n: usize, text: &[u8], out: &mut [MoveCode]) -> u64
+    ensures { λ r. ⌜ Packed parsedNo parsedValue (AlgorithmResult n (now (text .entry)) (now (out .entry)) (now (out .exit))) r ⌝ }
+{
+    pack_parsed(algorithm_parser::parse_algorithm(n, text, out))
 }
 
 // Writes a list as a scramble.

@@ -23,6 +23,7 @@ one-answer = record {
   apply-moves = λ n cube work moves r s a b x y p q. (packed-one p q (p .result .answered) (q .result .answered), slice-one (p .result .cube-is) (q .result .cube-is), slice-one (p .result .work-is) (q .result .work-is));
   all-moves = λ n out r s a b p q. (packed-one p q (p .result .answered) (q .result .answered), slice-one (p .result .left) (q .result .left));
   parse-scramble = λ n text out r s a b p q. (packed-one p q (p .result .answered) (q .result .answered), slice-one (p .result .written) (q .result .written));
+  parse-algorithm = λ n text out r s a b p q. (packed-one p q (p .result .answered) (q .result .answered), slice-one (p .result .written) (q .result .written));
   write-scramble = λ n moves out r s a b p q. (packed-one p q (p .result .answered) (q .result .answered), slice-one (p .result .left) (q .result .left));
   simplify-moves = λ n moves out r s a b p q. (packed-one p q (p .result .answered) (q .result .answered), slice-one (p .result .left) (q .result .left));
   invert-moves = λ n moves out r s a b p q. (packed-one p q (p .result .answered) (q .result .answered), slice-one (p .result .left) (q .result .left));

@@ -11,6 +11,7 @@ use Rattle.generic_cube.specs.StickerIndex.{stickerRefusal, stickerIndex}
 use Rattle.move_lists.specs.Lists.{SimplifyResult, InvertResult}
 use Rattle.scramble_writer.specs.Write.{WriteResult}
 use Rattle.scramble_parser.specs.Parse.{ParseResult, parsedNo, parsedValue}
+use Rattle.algorithm_parser.specs.Groups.{AlgorithmResult}
 use Rattle.facelet_cube.specs.Apply.{ApplyMovesResult}
 use Rattle.facelet_cube.specs.Cube.{verdict, verdictNo, verdictValue, SolvedResult, SolvedIdsResult, MaskResult}
 use Rattle.search_theory.specs.CubeSearch.{CubeSearch}
@@ -45,6 +46,7 @@ pub record OneAnswer : Type 0 where
   pub apply-moves : (n : ℕ) (cube work moves : List ℕ) → One2 (λ r a x. Success (ApplyMovesResult n cube work moves a x) r)
   pub all-moves : (n : ℕ) (out : List ℕ) → One1 (λ r a. Valued (AllMovesResult n out a) r)
   pub parse-scramble : (n : ℕ) (text out : List ℕ) → One1 (λ r a. Packed parsedNo parsedValue (ParseResult n text out a) r)
+  pub parse-algorithm : (n : ℕ) (text out : List ℕ) → One1 (λ r a. Packed parsedNo parsedValue (AlgorithmResult n text out a) r)
   pub write-scramble : (n : ℕ) (moves out : List ℕ) → One1 (λ r a. Valued (WriteResult n moves out a) r)
   pub simplify-moves : (n : ℕ) (moves out : List ℕ) → One1 (λ r a. Valued (SimplifyResult n moves out a) r)
   pub invert-moves : (n : ℕ) (moves out : List ℕ) → One1 (λ r a. Valued (InvertResult n moves out a) r)
