@@ -92,6 +92,24 @@ uint64_t cubesim_all_moves(uint64_t n, uint16_t *out, size_t out_len);
    Example: assert(cubesim_parse_scramble(3, (const uint8_t *)"R 2R", 4, out, 4) == 14 + 256 * 4); */
 uint64_t cubesim_parse_scramble(uint64_t n, const uint8_t *text, size_t text_len, uint16_t *out, size_t out_len);
 
+/* Reads an algorithm with groups, as coaches write it, and gives every move of it in order; the value is the count of moves. A sequence is any
+   number of tokens, those of cubesim_parse_scramble, and of groups: (A) is A, with a digit 1 to 9 right after the `)` A so many times;
+   [A, B] is A, B, A inverted, B inverted; [A: B] is A, B, A inverted. A and B are sequences and may be empty; groups stand at most 8 deep. The
+   signs ( ) [ ] , : end a token, and spaces around them are free. Text without them answers as cubesim_parse_scramble. There may be more moves
+   than bytes. Refusals: 1; then the first by place, at one place the lower number, with its offset as the value: a token's 13, 12, 14 and 5, as
+   cubesim_parse_scramble has them; 16 at a sign that is out of place, or at the text's end if one is missing; 17 at the sign that opens a ninth
+   level. Only then 6, if there are more moves than slots.
+   examples/c/coach.c writes algorithms out in plain notation.
+   Example: uint16_t out[6];
+   Example: assert(cubesim_parse_algorithm(3, (const uint8_t *)"[R, U]", 6, out, 6) == 256 * 4 && out[0] == 13 && out[1] == 1 && out[2] == 15 && out[3] == 3);
+   Example: assert(cubesim_parse_algorithm(3, (const uint8_t *)"[R: U2]", 7, out, 6) == 256 * 3 && out[0] == 13 && out[1] == 2 && out[2] == 15);
+   Example: assert(cubesim_parse_algorithm(3, (const uint8_t *)"(R U)3", 6, out, 6) == 256 * 6 && out[4] == 13 && out[5] == 1);
+   Example: assert(cubesim_parse_algorithm(3, (const uint8_t *)"(R U)4", 6, out, 6) == 6 && out[5] == 1);
+   Example: assert(cubesim_parse_algorithm(3, (const uint8_t *)"[R, U)", 6, out, 6) == 16 + 256 * 5);
+   Example: assert(cubesim_parse_algorithm(3, (const uint8_t *)"(R ", 3, out, 6) == 16 + 256 * 3);
+   Example: assert(cubesim_parse_algorithm(3, (const uint8_t *)"(((((((((", 9, out, 6) == 17 + 256 * 8); */
+uint64_t cubesim_parse_algorithm(uint64_t n, const uint8_t *text, size_t text_len, uint16_t *out, size_t out_len);
+
 /* Writes a list as a scramble; the value is the count of bytes. A wide width is 2 to n-1. Refusals 1, 3, 5, 6.
    Example: const uint16_t list[] = {14, 219}; uint8_t text[8];
    Example: assert(cubesim_value(cubesim_write_scramble(4, list, 2, text, 8)) == 7 && memcmp(text, "R2 3Uw'", 7) == 0); */

@@ -32,6 +32,7 @@ mod raw {
         pub fn cubesim_apply_moves_to_ids(n: u64, ids: *mut u16, ids_len: usize, work: *mut u16, work_len: usize, moves: *const u16, moves_len: usize) -> u64;
         pub fn cubesim_all_moves(n: u64, out: *mut u16, out_len: usize) -> u64;
         pub fn cubesim_parse_scramble(n: u64, text: *const u8, text_len: usize, out: *mut u16, out_len: usize) -> u64;
+        pub fn cubesim_parse_algorithm(n: u64, text: *const u8, text_len: usize, out: *mut u16, out_len: usize) -> u64;
         pub fn cubesim_write_scramble(n: u64, moves: *const u16, moves_len: usize, out: *mut u8, out_len: usize) -> u64;
         pub fn cubesim_simplify_moves(n: u64, moves: *const u16, moves_len: usize, out: *mut u16, out_len: usize) -> u64;
         pub fn cubesim_invert_moves(n: u64, moves: *const u16, moves_len: usize, out: *mut u16, out_len: usize) -> u64;
@@ -56,7 +57,7 @@ pub enum Refusal {
     Length,
     /// 3
     Code,
-    /// 5, from the parser with the byte at which the token starts
+    /// 5, from the parsers with the byte at which the token starts
     Width(Option<usize>),
     /// 6
     Room,
@@ -74,6 +75,10 @@ pub enum Refusal {
     Digits(usize),
     /// 14, with the byte at which the token goes wrong behind its letter
     Ending(usize),
+    /// 16, with the byte of the sign that is out of place, or the text's end where one is missing
+    Sign(usize),
+    /// 17, with the byte of the sign that opens a ninth level
+    Level(usize),
 }
 
 impl Refusal {
@@ -92,13 +97,15 @@ impl Refusal {
             Refusal::Letter(_) => 12,
             Refusal::Digits(_) => 13,
             Refusal::Ending(_) => 14,
+            Refusal::Sign(_) => 16,
+            Refusal::Level(_) => 17,
         }
     }
 
     /// The byte of a refused text to look at, where the refusal carries it; it may be the text's end.
     pub fn place(self) -> Option<usize> {
         match self {
-            Refusal::Letter(at) | Refusal::Digits(at) | Refusal::Ending(at) => Some(at),
+            Refusal::Letter(at) | Refusal::Digits(at) | Refusal::Ending(at) | Refusal::Sign(at) | Refusal::Level(at) => Some(at),
             Refusal::Width(at) => at,
             _ => None,
         }
@@ -118,6 +125,8 @@ impl Refusal {
             12 => Refusal::Letter(value),
             13 => Refusal::Digits(value),
             14 => Refusal::Ending(value),
+            16 => Refusal::Sign(value),
+            17 => Refusal::Level(value),
             other => unreachable!("libcubesim.a has no refusal {other}"),
         }
     }
@@ -138,7 +147,9 @@ impl fmt::Display for Refusal {
             Refusal::Index => "no such sticker or id",
             Refusal::Letter(_) => "a letter must stand here: U R F L D B, or x y z where no width stands before it",
             Refusal::Digits(_) => "the width that starts here must be one to three digits, the first not 0",
-            Refusal::Ending(_) => "the token goes wrong here: after a width and its letter comes w, then at most one 2 or ', then a space or the end",
+            Refusal::Ending(_) => "the token goes wrong here: after a width and its letter comes w, then at most one 2 or ', then a space or the end, in an algorithm also a sign",
+            Refusal::Sign(_) => "a sign is wrong or missing here: ( closes with ), [ has one comma or colon and closes with ]",
+            Refusal::Level(_) => "the group that opens here is nine deep, and at most eight may stand in each other: write an outer one out",
         };
         write!(f, "refused {}", self.number())?;
         if let Some(at) = self.place() {
@@ -290,11 +301,38 @@ pub fn all_moves(n: usize, out: &mut [u16]) -> Result<usize, Refusal> {
 /// let told = |text: &[u8]| parse_scramble(4, text, &mut [0u16; 4]).unwrap_err().to_string();
 /// assert_eq!(told(b"R 02Uw"), "refused 13 at 2: the width that starts here must be one to three digits, the first not 0");
 /// assert_eq!(told(b"R 2x"), "refused 12 at 3: a letter must stand here: U R F L D B, or x y z where no width stands before it");
-/// assert_eq!(told(b"R2'"), "refused 14 at 2: the token goes wrong here: after a width and its letter comes w, then at most one 2 or ', then a space or the end");
+/// assert_eq!(told(b"R2'"), "refused 14 at 2: the token goes wrong here: after a width and its letter comes w, then at most one 2 or ', then a space or the end, in an algorithm also a sign");
 /// assert_eq!(told(b"4Uw"), "refused 5 at 0: the token that starts here has a width that must be above 1 and below the size; without digits it is 2");
 /// ```
 pub fn parse_scramble(n: usize, text: &[u8], out: &mut [u16]) -> Result<usize, Refusal> {
     taken(unsafe { raw::cubesim_parse_scramble(n as u64, text.as_ptr(), text.len(), out.as_mut_ptr(), out.len()) }, true)
+}
+
+/// Reads an algorithm with groups, as coaches write it; the answer is the count of moves, each of which is in `out`. Tokens are those of
+/// [`parse_scramble`]. `(A)` is A, with a digit 1 to 9 right after it A so many times; `[A, B]` is A, B, A inverted, B inverted; `[A: B]` is A, B, A
+/// inverted. Groups stand at most 8 deep, and A and B may be empty. There may be more moves than bytes. A refused text is told by its first byte
+/// at fault; [`Refusal::Room`] comes last.
+///
+/// ```
+/// use cubesim_proved::{parse_algorithm, Refusal};
+/// let mut out = [0u16; 6];
+/// assert_eq!(parse_algorithm(3, b"[R, U]", &mut out), Ok(4));
+/// assert_eq!(out[..4], [13, 1, 15, 3]); // R U R' U'
+/// assert_eq!(parse_algorithm(3, b"[R: U2]", &mut out), Ok(3));
+/// assert_eq!(out[..3], [13, 2, 15]); // R U2 R'
+/// assert_eq!(parse_algorithm(3, b"(R U)3", &mut out), Ok(6));
+/// assert_eq!(out, [13, 1, 13, 1, 13, 1]);
+/// assert_eq!(parse_algorithm(3, b"(R U)4", &mut out), Err(Refusal::Room));
+/// assert_eq!(parse_algorithm(3, b"(R]", &mut out), Err(Refusal::Sign(2)));
+/// assert_eq!(parse_algorithm(3, b"[R 2R)", &mut out), Err(Refusal::Ending(5)));
+/// let refused = parse_algorithm(3, b"(R U ", &mut out).unwrap_err();
+/// assert_eq!((refused.number(), refused.place()), (16, Some(5)));
+/// let told = |text: &[u8]| parse_algorithm(3, text, &mut [0u16; 4]).unwrap_err().to_string();
+/// assert_eq!(told(b"[R]"), "refused 16 at 2: a sign is wrong or missing here: ( closes with ), [ has one comma or colon and closes with ]");
+/// assert_eq!(told(b"((((((((("), "refused 17 at 8: the group that opens here is nine deep, and at most eight may stand in each other: write an outer one out");
+/// ```
+pub fn parse_algorithm(n: usize, text: &[u8], out: &mut [u16]) -> Result<usize, Refusal> {
+    taken(unsafe { raw::cubesim_parse_algorithm(n as u64, text.as_ptr(), text.len(), out.as_mut_ptr(), out.len()) }, true)
 }
 
 /// Writes a list as a scramble; the answer is the count of bytes.
