@@ -1,6 +1,6 @@
 //! Times the crate and the proved library beside it: the same inputs, one run, both built for release. Prints a table of medians and ratios.
 //!
-//!   bench [PART..]     moves, lists, tables, search; by default all four
+//!   bench [PART..]     moves, lists, tables, search, algorithms; by default all five
 use compare::crate_side::{codes, letters, mvs};
 use compare::rng::Rng;
 use cubesim::prelude::open::{ida_star, PruningTable, Solver};
@@ -80,13 +80,19 @@ fn moving(rng: &mut Rng) {
     }
 }
 
-fn listing(rng: &mut Rng) {
+/// 1 MiB of face moves.
+fn scramble(rng: &mut Rng) -> Vec<u8> {
     let mut text = Vec::new();
     while text.len() < 1 << 20 {
         text.push(*rng.of(b"URFLDB"));
         text.extend(rng.of(&["", "2", "'"]).bytes());
         text.push(b' ');
     }
+    text
+}
+
+fn listing(rng: &mut Rng) {
+    let text = scramble(rng);
     let owned = String::from_utf8(text.clone()).unwrap();
     let mut out = vec![0u16; text.len()];
     let count = cubesim_proved::parse_scramble(3, &text, &mut out).unwrap();
@@ -245,6 +251,79 @@ fn searching(rng: &mut Rng) {
     }
 }
 
+/// The medians of two jobs over one slice of codes, in nanoseconds. Their runs take turns, so that both meet the same hours of the machine.
+fn beside(runs: usize, codes: &mut [u16], other: impl Fn(&mut [u16]), ours: impl Fn(&mut [u16])) -> (f64, f64) {
+    let mut times = [Vec::new(), Vec::new()];
+    for _ in 0..runs {
+        times[0].push(median(1, || other(black_box(codes))));
+        times[1].push(median(1, || ours(black_box(codes))));
+    }
+    let [theirs, ours] = times.map(|mut all| {
+        all.sort_by(f64::total_cmp);
+        all[runs / 2]
+    });
+    (theirs, ours)
+}
+
+/// A row against a job that is not the crate's: the crate has no groups.
+fn row_beside(job: &str, other: &str, (theirs, ours): (f64, f64)) {
+    println!("| {job} | {other} | {} | {} | {:.2} |", shown(theirs), shown(ours), theirs / ours);
+}
+
+/// Seven levels of commutators and conjugates in turn, each half another, down to sixteen face moves nine times over: 995,328 moves.
+fn halves(rng: &mut Rng, levels: usize) -> String {
+    if levels == 0 {
+        let moves: Vec<String> = (0..16).map(|_| format!("{}{}", *rng.of(b"URFLDB") as char, rng.of(&["", "2", "'"]))).collect();
+        return format!("({})9", moves.join(" "));
+    }
+    let (first, second) = (halves(rng, levels - 1), halves(rng, levels - 1));
+    format!("[{first}{} {second}]", if levels % 2 == 1 { ',' } else { ':' })
+}
+
+fn read_scramble(text: &[u8], out: &mut [u16]) -> usize {
+    black_box(cubesim_proved::parse_scramble(3, black_box(text), out).unwrap())
+}
+
+fn read_algorithm(text: &[u8], out: &mut [u16]) -> usize {
+    black_box(cubesim_proved::parse_algorithm(3, black_box(text), out).unwrap())
+}
+
+/// An algorithm without groups, or with many small ones, beside parse_scramble on a text of the same moves.
+fn reading(job: &str, algorithm: &[u8], other: &str, scramble: &[u8]) {
+    let (mut codes, mut same) = (vec![0u16; scramble.len()], vec![0u16; scramble.len()]);
+    let count = read_algorithm(algorithm, &mut codes);
+    assert!(count == read_scramble(scramble, &mut same) && codes == same);
+    let times = beside(31, &mut codes, |out| _ = read_scramble(scramble, out), |out| _ = read_algorithm(algorithm, out));
+    row_beside(&format!("{job}, {} moves", grouped(count)), other, times);
+}
+
+/// An expansion to about a million moves beside a loop that stores as many codes into the same slice: as the compiler likes, several at a time, and each code
+/// by itself.
+fn expanding(job: &str, text: &[u8]) {
+    let mut codes = vec![0u16; 1_100_000];
+    let count = read_algorithm(text, &mut codes);
+    let (job, pair) = (format!("{job}, {} moves", grouped(count)), [13u16, 1]);
+    let ours = |out: &mut [u16]| _ = read_algorithm(text, out);
+    let stored = |out: &mut [u16]| out[..count].iter_mut().enumerate().for_each(|(i, slot)| *slot = pair[i % 2]);
+    row_beside(&job, "a loop that stores as many codes", beside(51, &mut codes, stored, ours));
+    let apart = |out: &mut [u16]| out[..count].iter_mut().enumerate().for_each(|(i, slot)| *slot = black_box(pair[i % 2]));
+    row_beside(&job, "the same loop, each code by itself", beside(51, &mut codes, apart, ours));
+}
+
+/// Algorithms beside parse_scramble and beside storing their moves; and groups of nothing.
+fn grouping(rng: &mut Rng) {
+    println!("| job | held against | its time | here | its time / here |\n|---|---|---|---|---|");
+    let plain = scramble(rng);
+    reading("algorithm without groups, 1 MiB", &plain, "parse_scramble, the same text", &plain);
+    reading("65,536 times [R,U]", "[R,U]".repeat(1 << 16).as_bytes(), "parse_scramble, the same moves", "R U R' U' ".repeat(1 << 16).as_bytes());
+    expanding("((((((R U)9)9)9)9)9)9", b"((((((R U)9)9)9)9)9)9");
+    expanding("seven levels of commutators and conjugates", halves(rng, 7).as_bytes());
+    for text in ["()", "(((((((()9)9)9)9)9)9)9)9", "[[[[[[[[:]:]:]:]:]:]:]:]"] {
+        let ours = median_of_calls(301, 1_000, || read_algorithm(text.as_bytes(), &mut []));
+        println!("| {text}, 0 moves | – | – | {} | – |", shown(ours));
+    }
+}
+
 /// Half a second of work, so that the first rows are not timed on a processor that is still waking.
 fn wake() {
     let (start, cube, ms) = (Instant::now(), FaceletCube::new(3), mvs(&face_moves()));
@@ -256,17 +335,28 @@ fn wake() {
 fn main() {
     let asked: Vec<String> = std::env::args().skip(1).collect();
     // each part has its own seed, so that its inputs are the same when it is asked for alone
-    let parts: [(&str, fn(&mut Rng), u64); 4] =
-        [("moves", moving, 20261115), ("lists", listing, 0x4cb0_0e2d_492a_f5e3), ("tables", building, 20261115), ("search", searching, 0xe956_bbba_f7e4_cb5b)];
+    // the algorithms' seed is the lists', so that the text without groups is the one that the lists have
+    let parts: [(&str, fn(&mut Rng), u64); 5] = [
+        ("moves", moving, 20261115),
+        ("lists", listing, 0x4cb0_0e2d_492a_f5e3),
+        ("tables", building, 20261115),
+        ("search", searching, 0xe956_bbba_f7e4_cb5b),
+        ("algorithms", grouping, 0x4cb0_0e2d_492a_f5e3),
+    ];
     if let Some(other) = asked.iter().find(|a| parts.iter().all(|(name, _, _)| name != a)) {
-        eprintln!("bench: {other} is not one of moves, lists, tables, search");
+        eprintln!("bench: {other} is not one of moves, lists, tables, search, algorithms");
         std::process::exit(2);
     }
     wake();
-    println!("| job | the crate | here | crate / here |\n|---|---|---|---|");
-    for (name, part, seed) in parts {
-        if asked.is_empty() || asked.iter().any(|a| a == name) {
-            part(&mut Rng(seed));
+    let wanted: Vec<_> = parts.iter().filter(|(name, _, _)| asked.is_empty() || asked.iter().any(|a| a == name)).collect();
+    if wanted.iter().any(|(name, _, _)| *name != "algorithms") {
+        println!("| job | the crate | here | crate / here |\n|---|---|---|---|");
+    }
+    for (name, part, seed) in wanted {
+        // algorithms have a table of their own: the crate has no groups
+        if *name == "algorithms" && asked.len() != 1 {
+            println!();
         }
+        part(&mut Rng(*seed));
     }
 }

@@ -1,6 +1,7 @@
 //! Inputs inside the rules' domain of equality, and of searches outside it too; what the crate makes of those of tables and searches, and what the rules
 //! make of a search.
 use crate::crate_side::{codes, faces, letters, mv, mvs, LETTERS};
+use crate::grammar;
 use crate::rng::Rng;
 use cubesim::prelude::open::{ida_star, PruningTable, Solver};
 use cubesim::prelude::{Cube, FaceletCube};
@@ -34,35 +35,119 @@ pub fn painted(rng: &mut Rng, n: usize) -> Vec<u8> {
     cube
 }
 
+const SPACES: &[u8; 11] = b"\t\n\x0b\x0c\r      ";
+
+/// A token of the grammar, whatever the size.
+fn token(rng: &mut Rng, s: &mut Vec<u8>) {
+    let letters = b"URFLDB";
+    match rng.below(3) {
+        0 => s.push(*rng.of(b"xyz")),
+        1 => s.push(*rng.of(letters)),
+        _ => {
+            match rng.below(4) {
+                0 => s.extend((1 + rng.below(110)).to_string().bytes()),
+                1 => s.push(b'3' + rng.below(7) as u8),
+                _ => (),
+            }
+            s.push(*rng.of(letters));
+            s.push(b'w');
+        }
+    }
+    match rng.below(3) {
+        0 => s.push(b'2'),
+        1 => s.push(b'\''),
+        _ => (),
+    }
+}
+
 /// Tokens of the grammar, now and then damaged, with any of the spaces between them.
 pub fn text(rng: &mut Rng) -> Vec<u8> {
-    let letters = b"URFLDB";
     let mut s = Vec::new();
     for _ in 0..rng.below(12) {
         for _ in 0..1 + rng.below(2) {
-            s.push(*rng.of(b"\t\n\x0b\x0c\r      "));
+            s.push(*rng.of(SPACES));
         }
-        match rng.below(3) {
-            0 => s.push(*rng.of(b"xyz")),
-            1 => s.push(*rng.of(letters)),
-            _ => {
-                match rng.below(4) {
-                    0 => s.extend((1 + rng.below(110)).to_string().bytes()),
-                    1 => s.push(b'3' + rng.below(7) as u8),
-                    _ => (),
-                }
-                s.push(*rng.of(letters));
-                s.push(b'w');
-            }
-        }
-        match rng.below(3) {
-            0 => s.push(b'2'),
-            1 => s.push(b'\''),
-            _ => (),
-        }
+        token(rng, &mut s);
         if rng.below(40) == 0 {
             let at = rng.below(s.len());
             s[at] = rng.below(128) as u8;
+        }
+    }
+    s
+}
+
+/// A token that size n takes.
+fn fitting(rng: &mut Rng, n: usize) -> Vec<u8> {
+    loop {
+        let mut one = Vec::new();
+        token(rng, &mut one);
+        if grammar::text(n, &one).is_ok() {
+            return one;
+        }
+    }
+}
+
+/// Spaces where they are free: mostly none.
+fn free_spaces(rng: &mut Rng, s: &mut Vec<u8>) {
+    while rng.below(3) == 0 {
+        s.push(*rng.of(SPACES));
+    }
+}
+
+/// Tokens and groups that size n takes, `levels` deep in one of its groups and at most one deep in the others.
+fn sequence(rng: &mut Rng, n: usize, levels: usize, s: &mut Vec<u8>) {
+    let count = rng.below(4).max(levels.min(1));
+    let (deep, mut after_token) = (rng.below(count.max(1)), false);
+    for k in 0..count {
+        free_spaces(rng, s);
+        if levels > 0 && (k == deep || rng.below(4) == 0) {
+            group(rng, n, if k == deep { levels - 1 } else { 0 }, s);
+            after_token = false;
+            continue;
+        }
+        if after_token {
+            s.push(*rng.of(SPACES));
+        }
+        s.extend(fitting(rng, n));
+        after_token = true;
+    }
+    free_spaces(rng, s);
+}
+
+/// A group whose first or second half is so deep.
+fn group(rng: &mut Rng, n: usize, levels: usize, s: &mut Vec<u8>) {
+    if rng.below(2) == 0 {
+        s.push(b'(');
+        sequence(rng, n, levels, s);
+        s.push(b')');
+        s.extend(rng.of(&["", "", "1", "2", "2", "3", "4", "9"]).bytes());
+        return;
+    }
+    let first = rng.below(2) == 0;
+    s.push(b'[');
+    sequence(rng, n, if first { levels } else { 0 }, s);
+    s.push(*rng.of(b",:"));
+    sequence(rng, n, if first { 0 } else { levels }, s);
+    s.push(b']');
+}
+
+/// An algorithm of tokens that size n takes, its groups so many levels deep.
+pub fn algorithm(rng: &mut Rng, n: usize, levels: usize) -> Vec<u8> {
+    let mut s = Vec::new();
+    sequence(rng, n, levels, &mut s);
+    s
+}
+
+/// A text with a byte or two put in, changed or left out, mostly bytes that algorithms are made of.
+pub fn spoiled(rng: &mut Rng, text: &[u8]) -> Vec<u8> {
+    let mut s = text.to_vec();
+    for _ in 0..1 + rng.below(2) {
+        let byte = if rng.below(8) == 0 { rng.below(256) as u8 } else { *rng.of(b"URFLDBxyzw0123456789'()[],:()[],: \tQ") };
+        let at = rng.below(s.len() + 1);
+        match rng.below(3) {
+            0 if at < s.len() => s[at] = byte,
+            1 if at < s.len() => drop(s.remove(at)),
+            _ => s.insert(at, byte),
         }
     }
     s

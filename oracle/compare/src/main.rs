@@ -2,6 +2,7 @@
 //!
 //!   compare [--large] [SEED]     ends with status 1 at the first difference, with the smallest input found
 //!                                --large: also the table of 621,649 entries
+mod algorithms;
 mod crowded;
 mod differences;
 mod lists;
@@ -49,6 +50,7 @@ fn main() {
     solving::chosen_tables(&mut tally, &mut rng);
     crowded::all(&mut tally, &mut rng);
     solving::lookups(&mut tally, &mut rng);
+    let told = algorithms::all(&mut tally, &mut rng);
     if large {
         solving::largest_table(&mut tally);
     }
@@ -56,6 +58,7 @@ fn main() {
     for (kind, count) in &tally.0 {
         println!("{count:>9}  {kind}");
     }
+    told.print();
     println!("{otherwise:>9}  searches with two widths of a kind which the crate answers otherwise");
     println!("{:>9}  answers compared, seed {seed}, none different; {shown} known differences shown; {} s", tally.0.values().sum::<u64>(), start.elapsed().as_secs());
 }
