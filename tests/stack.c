@@ -11,7 +11,7 @@
 #include <ucontext.h>
 #include <unistd.h>
 
-enum { SPACE = 8 << 20, GUARD = 1 << 20, PAINT = 0xA5, SMALL_TABLE = 16 << 10, TABLE = 5 << 18, OTHER = 256 << 10, SIZE = 104, STICKERS = 6 * SIZE * SIZE };
+enum { SPACE = 8 << 20, GUARD = 1 << 20, PAINT = 0xA5, SMALL_TABLE = 16 << 10, TABLE = 5 << 18, ALGORITHM = 16 << 10, OTHER = 256 << 10, SIZE = 104, STICKERS = 6 * SIZE * SIZE };
 
 static unsigned char *stack;
 static size_t page;
@@ -105,6 +105,16 @@ static uint64_t moves(void) { return cubesim_apply_moves(SIZE, solved, STICKERS,
 static uint64_t moves_to_ids(void) { return cubesim_apply_moves_to_ids(SIZE, ids, STICKERS, id_work, STICKERS, all, 954); }
 static uint64_t parse(void) { return cubesim_parse_scramble(SIZE, text, text_len, codes, 1 << 16); }
 static uint64_t parse_bad(void) { return cubesim_parse_scramble(SIZE, (const uint8_t *)"R U 200Uw", 9, codes, 1 << 16); }
+static uint64_t algorithm(const char *s) { return cubesim_parse_algorithm(SIZE, (const uint8_t *)s, strlen(s), codes, 1 << 16); }
+static uint64_t algorithm_plain(void) { return cubesim_parse_algorithm(SIZE, text, text_len, codes, 1 << 16); }
+static uint64_t algorithm_repeats(void) { return algorithm("((((((((103Rw')9)9)9)9)2)2)2)"); }
+static uint64_t algorithm_brackets(void) { return algorithm("[[[[[[[[103Rw', U2]: F], F]: F], F]: F], F]: F]"); }
+static uint64_t algorithm_second_halves(void) { return algorithm("[F, [F: [F, [F: [F, [F: [F, [F: 103Rw' U2]]]]]]]]"); }
+static uint64_t algorithm_empty(void) { return algorithm("(((((((()9)9)9)9)9)9)9)9"); }
+static uint64_t algorithm_bad(void) { return algorithm("[[[[[[[(R 200Uw)9"); }
+static uint64_t algorithm_ninth(void) { return algorithm("[[[[[[[(U)(("); }
+static uint64_t algorithm_cut(void) { return algorithm("[[[[[[[(U)9, R"); }
+static uint64_t algorithm_long(void) { return algorithm("((((((((U)9)9)9)9)9)9)9)9"); }
 static uint64_t write_list(void) { return cubesim_write_scramble(SIZE, codes, 3000, out_text, sizeof out_text); }
 static uint64_t simplify(void) { return cubesim_simplify_moves(SIZE, codes, 3000, out, 1 << 16); }
 static uint64_t invert(void) { return cubesim_invert_moves(SIZE, codes, 3000, out, 1 << 16); }
@@ -150,6 +160,15 @@ int main(void) {
     while (text_len < 3000 * 7) text_len += (size_t)sprintf((char *)text + text_len, "%s", text_len / 7 % 3 ? "103Rw' " : "  U'   ");
     measure("cubesim_parse_scramble, 3,000 tokens", parse, value(3000), OTHER);
     measure("cubesim_parse_scramble, refused", parse_bad, value(4) + 5, OTHER);
+    measure("cubesim_parse_algorithm, eight levels of repeats", algorithm_repeats, value(9 * 9 * 9 * 9 * 8), ALGORITHM);
+    measure("cubesim_parse_algorithm, eight levels of brackets", algorithm_brackets, value(681), ALGORITHM);
+    measure("cubesim_parse_algorithm, eight levels, the second half each", algorithm_second_halves, value(122), ALGORITHM);
+    measure("cubesim_parse_algorithm, eight levels of nothing", algorithm_empty, 0, ALGORITHM);
+    measure("cubesim_parse_algorithm, a token refused, eight deep", algorithm_bad, value(10) + 5, ALGORITHM);
+    measure("cubesim_parse_algorithm, a ninth level", algorithm_ninth, value(11) + 17, ALGORITHM);
+    measure("cubesim_parse_algorithm, signs missing", algorithm_cut, value(14) + 16, ALGORITHM);
+    measure("cubesim_parse_algorithm, 43,046,721 moves, refused", algorithm_long, 6, ALGORITHM);
+    measure("cubesim_parse_algorithm, 3,000 tokens without groups", algorithm_plain, value(3000), ALGORITHM);
     measure("cubesim_write_scramble, 3,000 moves", write_list, value(3000 / 3 * (2 + 6 + 6) + 2999), OTHER);
     measure("cubesim_simplify_moves, 3,000 moves", simplify, value(2000), OTHER);
     measure("cubesim_invert_moves, 3,000 moves", invert, value(3000), OTHER);
