@@ -2,13 +2,13 @@
 use crate::fields;
 
 // The entries' names, as fields.
-const NAMES: [u8; 176] =
-    *b"solved|solved_ids|is_solved|sticker_index|mask|apply_moves|apply_moves_to_ids|all_moves|parse_scramble|write_scramble|simplify_moves|invert_moves|pruning_table|ida_star|program";
+const NAMES: [u8; 192] =
+    *b"solved|solved_ids|is_solved|sticker_index|mask|apply_moves|apply_moves_to_ids|all_moves|parse_scramble|write_scramble|simplify_moves|invert_moves|pruning_table|ida_star|parse_algorithm|program";
 
-// The number of an entry, 15 for a name that is none's.
+// The number of an entry, 16 for a name that is none's.
 pub fn entry_of(name: &[u8]) -> usize {
     let mut k: usize = 0;
-    while k < 15 {
+    while k < 16 {
         if check::same(name, fields::field(&NAMES, k)) {
             return k;
         }
@@ -65,6 +65,7 @@ fn call(
         11 => cubesim::cubesim_invert_moves(n, x, y),
         12 => cubesim::cubesim_pruning_table(n, a, x, p, b),
         13 => cubesim::cubesim_ida_star(n, a, b, p, x, q, c, y),
+        14 => cubesim::cubesim_parse_algorithm(n, a, x),
         _ => respond(a, b),
     }
 }

@@ -11,7 +11,7 @@ fn replay(line: &[u8]) -> u8 {
     if fields::separators(line) != 16 {
         return 2;
     }
-    if calls::entry_of(fields::field(line, 0)) == 15 {
+    if calls::entry_of(fields::field(line, 0)) == 16 {
         return 2;
     }
     calls::replay(line, &mut told);

@@ -1,11 +1,12 @@
 //! Writes records of the crate's answers that `stations` replays, a record a line, to standard output, and the counts to standard error.
-//! Every answer is the crate's, or (write_scramble, invert_moves, which the crate lacks) is read back or undone by it; the library is not called.
+//! Every answer is the crate's, or (write_scramble, invert_moves, parse_algorithm, which the crate lacks) is read back, undone or followed by it; the
+//! library is not called.
 //! What a record says besides, of lent slices and counts, is the rules' (crates/stations/RECORDS.md).
 //!
 //!   replay [SEED]
 use compare::crate_side::{code, codes, face, faces, ids, letters, mvs};
 use compare::rng::Rng;
-use compare::{grammar, inputs};
+use compare::{grammar, groups, inputs};
 use cubesim::prelude::{Cube, FaceletCube, MoveVariant};
 use std::collections::BTreeMap;
 
@@ -323,6 +324,35 @@ fn searches(list: &mut List, rng: &mut Rng) {
     }
 }
 
+/// Text without groups, which the crate reads itself, and drawn groups up to eight deep. Those are expanded by the second reading; the crate must read
+/// the expansion's spelling as that list, and come by it to the same ids as by its single moves, followed and undone as the groups say.
+fn algorithms(list: &mut List, rng: &mut Rng) {
+    let mut left = 100;
+    while left > 0 {
+        let n = 1 + rng.below(104);
+        let s = inputs::text(rng);
+        if grammar::in_domain(&s) && grammar::text(n, &s).is_ok() {
+            let moves = codes(&cubesim::parse_scramble(text(&s)));
+            list.filled("parse_algorithm", n, &s, None, &moves, moves.len());
+            left -= 1;
+        }
+    }
+    left = 200;
+    while left > 0 {
+        let (n, levels) = (1 + rng.below(6), 1 + left % 8);
+        let s = inputs::algorithm(rng, n, levels);
+        let Ok(sequence) = groups::text(n, &s) else { panic!("refused: {}", bytes(&s)) };
+        if (1..150).contains(&sequence.length()) {
+            let moves = sequence.expansion();
+            let spelling = words(&moves.iter().map(|c| spelled(*c)).collect::<Vec<_>>());
+            assert_eq!(codes(&cubesim::parse_scramble(spelling.clone())), moves, "the crate reads {spelling:?} otherwise");
+            assert_eq!(ids(&new(n).apply_moves(&mvs(&moves))), sequence.effect(n), "the crate is led elsewhere by {spelling:?}");
+            list.filled("parse_algorithm", n, &s, None, &moves, moves.len());
+            left -= 1;
+        }
+    }
+}
+
 fn main() {
     let seed = std::env::args().nth(1).map_or(SEED, |s| s.parse().expect("a seed is a number"));
     let mut rng = Rng(seed);
@@ -334,6 +364,7 @@ fn main() {
     lists(&mut list, &mut rng);
     tables(&mut list, &mut rng);
     searches(&mut list, &mut rng);
+    algorithms(&mut list, &mut rng);
     let mut counts = BTreeMap::new();
     for line in &list.0 {
         *counts.entry(line.split('|').next().unwrap()).or_insert(0) += 1;

@@ -4,10 +4,10 @@ use Rattle.stations.proofs.calls.entry_of.Statement.{statement}
 use Rattle.stations.proofs.calls.entry_of.Tie as tie
 
 abbrev Inv-loop : tie.InvT-loop
-Inv-loop name k₀ t3 k = k ≤ 15
+Inv-loop name k₀ t3 k = k ≤ 16
 
 abbrev μ-loop : tie.MeasureT-loop
-μ-loop name k₀ t3 k = 15 - k
+μ-loop name k₀ t3 k = 16 - k
 
 loop-holds : tie.Need-loop-holds Inv-loop μ-loop
 loop-holds c = search needs
