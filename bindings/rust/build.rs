@@ -1,5 +1,5 @@
 //! Finds libcubesim.a: in the folder that CUBESIM_LIB names; else in ../lib, where the archive that ./dist makes has it; else in the repository's
-//! target/staticlib, where `rt staticlib cubesim` puts it.
+//! target/staticlib, where `tools/staticlib` puts it.
 use std::path::PathBuf;
 use std::process::Command;
 
@@ -16,7 +16,7 @@ fn found() -> PathBuf {
     let made = top.join("target/staticlib");
     if !made.join("libcubesim.a").exists() {
         let run = Command::new("rt").args(["staticlib", "cubesim"]).current_dir(&top).status();
-        let help = "libcubesim.a is missing: name its folder by CUBESIM_LIB, or make it by `rt staticlib cubesim`";
+        let help = "libcubesim.a is missing: name its folder by CUBESIM_LIB, or make it by `tools/staticlib`";
         assert!(matches!(run, Ok(s) if s.success()), "{help}");
     }
     made

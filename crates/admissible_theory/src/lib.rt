@@ -1,1 +1,2 @@
 // Why an admissible table gives best answers, and why built tables are admissible: laws in proofs/, and no code.
+#![tactic(auto)]

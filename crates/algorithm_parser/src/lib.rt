@@ -1,4 +1,6 @@
 // Algorithms as coaches write them, with groups: (A)3, [A, B], [A: B]. No part of the source; its scrambles have no groups.
+#![tactic(auto)]
+
 ghost use Rattle.std.specs.Prelude.{◌≡◌, true, ◌||◌, List, [], ℕ, ◌-◌, ◌≤◌, ◌<◌, length, eqb};
 ghost use Rattle.ground.specs.Choice.{pick, between};
 ghost use Rattle.generic_cube.specs.Sizes.{sized};
@@ -13,7 +15,7 @@ use tokens::{Next, Token};
 pub mod moves;
 
 // How a part of a text reads: where it ends, and the place behind its moves in the output; or the number of a refusal and its place.
-#[derive(Drop)]
+#[derive(Clone, Copy)]
 pub enum Part {
     Read { end: usize, next: usize },
     Bad(u8, usize),

@@ -1,4 +1,6 @@
 // What the program `cube` answers to what it reads.
+#![tactic(auto)]
+
 pub mod lines;
 pub mod response;
 pub mod text;

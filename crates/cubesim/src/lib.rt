@@ -1,4 +1,6 @@
-// The public entries, as C functions: nothing but calls of the crates below, their answers packed into one number.
+// The public entries: nothing but calls of the crates below, their answers packed into one number. cubesim_c exports them to C.
+#![tactic(auto)]
+
 ghost use Rattle.std.specs.Prelude.{◌≡◌, suc};
 ghost use Rattle.generic_cube.specs.Answers.{done_no, answer_no, answer_value, answer};
 ghost use Rattle.generic_cube.specs.AllMoves.{AllMovesResult};
@@ -87,69 +89,56 @@ fn pack_found(k: usize) -> u64
 }
 
 // The library's version, a plain number and not a packed answer: it refuses nothing.
-#[unsafe(no_mangle)]
-pub extern "C" fn cubesim_version() -> u64
+pub fn cubesim_version() -> u64
     ensures { result ≡ version }
 {
     0 * 65536 + 4 * 256 + 0
 }
 
 // The solved cube.
-#[unsafe(no_mangle)]
-pub extern "C" fn cubesim_solved(n: usize, cube: &mut [u8]) -> u64
+pub fn cubesim_solved(n: usize, cube: &mut [u8]) -> u64
     ensures { Packed done_no (λ a. 0) (SolvedResult n cube.old cube.new) result }
 {
     pack_done(facelet_cube::cube::solved(n, cube))
 }
 
 // The ids of the solved cube.
-#[unsafe(no_mangle)]
-pub extern "C" fn cubesim_solved_ids(n: usize, ids: &mut [u16]) -> u64
+pub fn cubesim_solved_ids(n: usize, ids: &mut [u16]) -> u64
     ensures { Packed done_no (λ a. 0) (SolvedIdsResult n ids.old ids.new) result }
 {
     pack_done(facelet_cube::cube::solved_ids(n, ids))
 }
 
 // Whether a cube is solved.
-#[unsafe(no_mangle)]
-pub extern "C" fn cubesim_is_solved(n: usize, cube: &[u8]) -> u64
+pub fn cubesim_is_solved(n: usize, cube: &[u8]) -> u64
     ensures { Packed verdict_no verdict_value (λ a. a ≡ verdict n cube.now) result }
 {
     pack_verdict(facelet_cube::cube::is_solved(n, cube))
 }
 
 // The index of a sticker.
-#[unsafe(no_mangle)]
-pub extern "C" fn cubesim_sticker_index(n: usize, face: u8, index: usize) -> u64
+pub fn cubesim_sticker_index(n: usize, face: u8, index: usize) -> u64
     ensures { Packed answer_no answer_value (λ a. a ≡ answer (sticker_refusal n face index) (sticker_index n face index)) result }
 {
     pack_answer(generic_cube::stickers::sticker_index(n, face, index))
 }
 
 // The letters that a keep slice hides.
-#[unsafe(no_mangle)]
-pub extern "C" fn cubesim_mask(n: usize, cube: &mut [u8], ids: &[u16], keep: &[u8]) -> u64
+pub fn cubesim_mask(n: usize, cube: &mut [u8], ids: &[u16], keep: &[u8]) -> u64
     ensures { Packed done_no (λ a. 0) (MaskResult n cube.old ids.now keep.now cube.new) result }
 {
     pack_done(facelet_cube::cube::mask(n, cube, ids, keep))
 }
 
 // A list of moves on a cube.
-#[unsafe(no_mangle)]
-pub extern "C" fn cubesim_apply_moves(
-    n: usize,
-    cube: &mut [u8],
-    work: &mut [u8],
-    moves: &[MoveCode],
-) -> u64
+pub fn cubesim_apply_moves(n: usize, cube: &mut [u8], work: &mut [u8], moves: &[MoveCode]) -> u64
     ensures { Packed done_no (λ a. 0) (ApplyMovesResult n cube.old work.old moves.now cube.new work.new) result }
 {
     pack_done(facelet_letters::apply_moves(n, cube, work, moves))
 }
 
 // A list of moves on ids.
-#[unsafe(no_mangle)]
-pub extern "C" fn cubesim_apply_moves_to_ids(
+pub fn cubesim_apply_moves_to_ids(
     n: usize,
     ids: &mut [u16],
     work: &mut [u16],
@@ -161,56 +150,49 @@ pub extern "C" fn cubesim_apply_moves_to_ids(
 }
 
 // All moves of a size.
-#[unsafe(no_mangle)]
-pub extern "C" fn cubesim_all_moves(n: usize, out: &mut [MoveCode]) -> u64
+pub fn cubesim_all_moves(n: usize, out: &mut [MoveCode]) -> u64
     ensures { Packed answer_no answer_value (AllMovesResult n out.old out.new) result }
 {
     pack_answer(generic_cube::moves::all_moves(n, out))
 }
 
 // Reads a scramble.
-#[unsafe(no_mangle)]
-pub extern "C" fn cubesim_parse_scramble(n: usize, text: &[u8], out: &mut [MoveCode]) -> u64
+pub fn cubesim_parse_scramble(n: usize, text: &[u8], out: &mut [MoveCode]) -> u64
     ensures { Packed parsed_no parsed_value (ParseResult n text.now out.old out.new) result }
 {
     pack_parsed(scramble_parser::parse_scramble(n, text, out))
 }
 
 // Reads an algorithm with groups, and expands them.
-#[unsafe(no_mangle)]
-pub extern "C" fn cubesim_parse_algorithm(n: usize, text: &[u8], out: &mut [MoveCode]) -> u64
+pub fn cubesim_parse_algorithm(n: usize, text: &[u8], out: &mut [MoveCode]) -> u64
     ensures { Packed parsed_no parsed_value (AlgorithmResult n text.now out.old out.new) result }
 {
     pack_parsed(algorithm_parser::parse_algorithm(n, text, out))
 }
 
 // Writes a list as a scramble.
-#[unsafe(no_mangle)]
-pub extern "C" fn cubesim_write_scramble(n: usize, moves: &[MoveCode], out: &mut [u8]) -> u64
+pub fn cubesim_write_scramble(n: usize, moves: &[MoveCode], out: &mut [u8]) -> u64
     ensures { Packed answer_no answer_value (WriteResult n moves.now out.old out.new) result }
 {
     pack_answer(scramble_writer::write_scramble(n, moves, out))
 }
 
 // Joins neighbours until none join.
-#[unsafe(no_mangle)]
-pub extern "C" fn cubesim_simplify_moves(n: usize, moves: &[MoveCode], out: &mut [MoveCode]) -> u64
+pub fn cubesim_simplify_moves(n: usize, moves: &[MoveCode], out: &mut [MoveCode]) -> u64
     ensures { Packed answer_no answer_value (SimplifyResult n moves.now out.old out.new) result }
 {
     pack_answer(move_lists::simplify_moves(n, moves, out))
 }
 
 // The list that undoes a list.
-#[unsafe(no_mangle)]
-pub extern "C" fn cubesim_invert_moves(n: usize, moves: &[MoveCode], out: &mut [MoveCode]) -> u64
+pub fn cubesim_invert_moves(n: usize, moves: &[MoveCode], out: &mut [MoveCode]) -> u64
     ensures { Packed answer_no answer_value (InvertResult n moves.now out.old out.new) result }
 {
     pack_answer(move_lists::invert_moves(n, moves, out))
 }
 
 // A pruning table.
-#[unsafe(no_mangle)]
-pub extern "C" fn cubesim_pruning_table(
+pub fn cubesim_pruning_table(
     n: usize,
     starts: &[u8],
     moves: &[MoveCode],
@@ -223,8 +205,7 @@ pub extern "C" fn cubesim_pruning_table(
 }
 
 // The search.
-#[unsafe(no_mangle)]
-pub extern "C" fn cubesim_ida_star(
+pub fn cubesim_ida_star(
     n: usize,
     cube: &[u8],
     table: &[u8],

@@ -6,7 +6,7 @@ use generic_cube::Done;
 use generic_cube::stickers::LETTERS;
 
 // Whether a cube is solved.
-#[derive(Drop)]
+#[derive(Clone, Copy)]
 pub enum Verdict {
     Solved,
     Unsolved,

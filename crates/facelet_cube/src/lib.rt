@@ -1,5 +1,7 @@
 // Cubes as lists of stickers: facelet_cube/cube.rs. What a list of moves does to one is a definition (specs/Apply.antt), its refusal is here;
 // the code that moves letters is in facelet_letters, the code that moves ids in facelet_ids.
+#![tactic(auto)]
+
 ghost use Rattle.std.specs.Prelude.{◌≡◌};
 ghost use Rattle.facelet_cube.specs.Apply.{apply_refusal};
 

@@ -1,4 +1,6 @@
 // Moves of a cube of ids: facelet_cube/moves.rs. facelet_letters has the same for letters.
+#![tactic(auto)]
+
 ghost use Rattle.std.specs.Prelude.{◌≡◌, length, ◌-◌, ◌/◌};
 ghost use Rattle.geometric_moves.specs.Turn.{moved, run};
 ghost use Rattle.facelet_cube.specs.Apply.{ApplyMovesResult};

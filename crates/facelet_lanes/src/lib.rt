@@ -1,4 +1,6 @@
 // Rings of lanes: how the stickers that a move takes lie, so that it can turn them in place. facelet_letters and facelet_ids turn them.
+#![tactic(auto)]
+
 ghost use Rattle.std.specs.Prelude.{◌≡◌, ◌/◌, ◌%◌, ◌<◌};
 ghost use Rattle.generic_cube.specs.Inner.{Sized};
 ghost use Rattle.sticker.specs.Place.{num_of};
@@ -16,7 +18,7 @@ const RINGS: [u32; 18] = [
 ];
 
 // Places in lines. From a line to the next the place goes up by `over` and down by `under`, along a line up by `along` and down by `behind`.
-#[derive(Drop)]
+#[derive(Clone, Copy)]
 pub struct Lane {
     pub start: usize,
     pub over: usize,
@@ -26,7 +28,7 @@ pub struct Lane {
 }
 
 // The four lanes of a ring, each a quarter turn from the one before.
-#[derive(Drop)]
+#[derive(Clone, Copy)]
 pub struct Ring {
     pub a: Lane,
     pub b: Lane,

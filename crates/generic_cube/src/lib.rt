@@ -1,4 +1,6 @@
 // Sizes, move codes and lists of them: generic_cube.rs. This file alone knows how a code is put together.
+#![tactic(auto)]
+
 ghost use Rattle.std.specs.Prelude.{◌≡◌, ◌+◌, ◌*◌, ◌≤◌};
 ghost use Rattle.ground.specs.Choice.{between};
 ghost use Rattle.generic_cube.specs.Sizes.{sized, small, beyond};
@@ -11,21 +13,21 @@ pub mod moves;
 pub mod stickers;
 
 // The answer of an entry that gives nothing back.
-#[derive(Drop)]
+#[derive(Clone, Copy)]
 pub enum Done {
     Ok,
     Refused(u8),
 }
 
 // The answer of an entry that gives a value back: a count, an index.
-#[derive(Drop)]
+#[derive(Clone, Copy)]
 pub enum Answer {
     Value(usize),
     Refused(u8),
 }
 
 // A move taken apart. Kinds: U 0, L 1, F 2, R 3, B 4, D 5, Uw 6, .., Dw 11, X 12, Y 13, Z 14. Turns: 1, 2, 3.
-#[derive(Drop)]
+#[derive(Clone, Copy)]
 pub struct Move {
     pub kind: usize,
     pub width: usize,
@@ -33,7 +35,7 @@ pub struct Move {
 }
 
 // What a code is: a move, or the number of its refusal.
-#[derive(Drop)]
+#[derive(Clone, Copy)]
 pub enum Code {
     Taken(Move),
     Refused(u8),

@@ -1,5 +1,7 @@
 // Rotations of the cube, and the face and the layers of a move: geometric_cube/moves.rs. What a move does to a place is a definition
 // (specs/Turn.antt); the code that moves cubes is in facelet_letters and facelet_ids.
+#![tactic(auto)]
+
 ghost use Rattle.std.specs.Prelude.{◌≡◌, ◌<◌, ◌≤◌};
 ghost use Rattle.geometric_moves.specs.Turn.{opposite, facing, same_face, whither, then_rot, inverse_rot, turn_of, quarter_of, letter_face, whole_face, kind_face, layers_of};
 
@@ -7,7 +9,7 @@ use generic_cube::Move;
 use sticker::Face;
 
 // A rotation of the whole cube: for each axis, the half axis whose coordinate becomes the new one.
-#[derive(Drop)]
+#[derive(Clone, Copy)]
 pub struct Rotation {
     pub x: Face,
     pub y: Face,

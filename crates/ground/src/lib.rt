@@ -1,4 +1,6 @@
 // What every crate above stands on: choices, lists given place by place, refusals, and the loops that copy and clear a slice.
+#![tactic(auto)]
+
 pub mod bytes;
 pub mod codes;
 pub mod ids;

@@ -1,4 +1,6 @@
 // The search: `ida_star` and `dfs` of generic_solver.rs.
+#![tactic(auto)]
+
 ghost use Rattle.std.specs.Prelude.{◌≡◌, [], ◌≤◌, length};
 ghost use Rattle.generic_cube.specs.Sizes.{stickers};
 ghost use Rattle.generic_cube.specs.Code.{move_of, joins};
@@ -12,7 +14,7 @@ use generic_cube::Code;
 use ground::codes::MoveCode;
 
 // What a search answers: a list of so many moves, none, or the number of its refusal.
-#[derive(Drop)]
+#[derive(Clone, Copy)]
 pub enum Outcome {
     Found(usize),
     Nothing,

@@ -1,5 +1,7 @@
 // An index of a table's keys: slots that hold an entry's number plus 1, each in the run of slots that its key's hash gives. It tells
 // whether a key stands among entries that are in no order.
+#![tactic(auto)]
+
 ghost use Rattle.std.specs.Prelude.{◌≡◌, true, ◌+◌, ◌%◌, ◌≤◌, ◌<◌, length, replicate};
 ghost use Rattle.table.specs.Entries.{entry_key, Present};
 ghost use Rattle.key_index.specs.InnerIndex.{run_length, mixed, hash_of, run_start_of, Indexed, Empty};
@@ -14,7 +16,7 @@ pub const CLASSES: usize = 1024;
 const RUN: usize = 64;
 
 // The classes of keys that an index holds, from `low` up to `high`; or, plainly, that there is no index and the entries are walked.
-#[derive(Drop)]
+#[derive(Clone, Copy)]
 pub struct Classes {
     pub low: usize,
     pub high: usize,
@@ -22,7 +24,7 @@ pub struct Classes {
 }
 
 // What is found of a key: it is an entry's, or this is the first empty slot of its run, or the run is full; or it is of another class.
-#[derive(Drop)]
+#[derive(Clone, Copy)]
 pub enum Found {
     Here,
     Gap(usize),

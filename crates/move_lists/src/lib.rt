@@ -1,4 +1,6 @@
 // Lists of codes, simplified and inverted: simplify_moves and invert_moves of scramble_parser.rs.
+#![tactic(auto)]
+
 ghost use Rattle.std.specs.Prelude.{◌≡◌, ◌<◌, ◌≤◌, length};
 ghost use Rattle.std.proofs.lemmas.List.Edits.{sets};
 ghost use Rattle.generic_cube.specs.Code.{move_of};

@@ -1,4 +1,6 @@
 // The builder of tables: PruningTable::new of generic_solver.rs. It climbs to the depth, and one sort ends it.
+#![tactic(auto)]
+
 ghost use Rattle.std.specs.Prelude.{◌≡◌, length};
 ghost use Rattle.generic_cube.specs.Sizes.{stickers};
 ghost use Rattle.table_climb.specs.Inner.{BuildReady};

@@ -1,4 +1,6 @@
 // The scramble reader: scramble_parser.rs.
+#![tactic(auto)]
+
 ghost use Rattle.std.specs.Prelude.{◌≡◌, true, ◌≤◌, length};
 ghost use Rattle.std.proofs.lemmas.List.Edits.{sets};
 ghost use Rattle.generic_cube.specs.Sizes.{sized};
@@ -10,7 +12,7 @@ use ground::codes::MoveCode;
 use tokens::{Next, Token};
 
 // What a text reads as: how many moves, or the number of a refusal, for a bad token with the byte at fault.
-#[derive(Drop)]
+#[derive(Clone, Copy)]
 pub enum Parsed {
     Moves(usize),
     Refused(u8),

@@ -1,4 +1,6 @@
 // The scramble writer, for which the source has none: the text that the reader reads back.
+#![tactic(auto)]
+
 ghost use Rattle.std.specs.Prelude.{◌≡◌, [], ◌∷◌, ◌<◌, ◌≤◌, ◌+◌, length, leb};
 ghost use Rattle.ground.specs.Inner.{Put};
 ghost use Rattle.scramble_writer.specs.Write.{kind_byte, mark_text, width_text, token_text, text_of, rest_text, list_text, write_refusal, WriteResult};

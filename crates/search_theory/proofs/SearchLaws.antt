@@ -35,6 +35,7 @@ else_none (found q) e = never_found (sym e)
 
 pub first_none : (f : ℕ → Reply) (cs : List ℕ) → first_of f cs ≡ none → {c : ℕ} → Memᴰ c cs → f c ≡ none
 unfolding first_of
+first_none f [] e m = elim m [ ]
 first_none f (x ∷ cs) e (Memᴰ.head h) = ap f h ∙ (else_none (f x) e).0
 first_none f (x ∷ cs) e (Memᴰ.tail m) = first_none f cs (else_none (f x) e).1 m
 

@@ -7,7 +7,14 @@ fn find(text: &[u8], at: usize, b: u8) -> usize
     requires { at ≤ length text.now }
     ensures { (at ≤ result) × (result ≤ length text.now) }
 {
-    bytes::scan::find(text, at, text.len(), b)
+    let mut i = at;
+    while i < text.len() {
+        if text[i] == b {
+            return i;
+        }
+        i += 1;
+    }
+    i
 }
 
 // The place behind the first `k` separators, or the end.
@@ -86,7 +93,7 @@ pub fn number_at(line: &[u8], k: usize, told: &mut u8) -> usize {
 }
 
 // A value so many times over.
-#[derive(Drop)]
+#[derive(Clone, Copy)]
 struct Times {
     value: usize,
     count: usize,

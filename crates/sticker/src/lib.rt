@@ -1,9 +1,11 @@
 // The faces of the cube, in the order in which they are stored: sticker.rs. Positions and stored places are definitions (specs/Place.antt).
+#![tactic(auto)]
+
 ghost use Rattle.std.specs.Prelude.{◌≡◌};
 ghost use Rattle.sticker.specs.Place.{num_of};
 
 // A face of the cube; also the half axis that points to it.
-#[derive(Drop)]
+#[derive(Clone, Copy)]
 pub enum Face {
     U,
     R,

@@ -1,5 +1,7 @@
 // Tables of states and their numbers: their form, and looking a state up. An entry is a key of m bytes, a cube, and one byte, its
 // number; entries stand in rising order of their keys.
+#![tactic(auto)]
+
 ghost use Rattle.std.specs.Prelude.{◌≡◌, ◌+◌, ◌%◌, ◌≤◌, ◌<◌, length};
 ghost use Rattle.table.specs.Order.{order_of, is_less};
 ghost use Rattle.table.specs.Entries.{entry_key, entry_number};
@@ -7,7 +9,7 @@ ghost use Rattle.table.specs.Table.{state_number, well_formed};
 ghost use Rattle.table.specs.Inner.{two_of, four_of, word_of, KeyLength, EntryThere, Lookup};
 
 // How two keys stand, byte by byte from the front.
-#[derive(Drop)]
+#[derive(Clone, Copy)]
 pub enum Order {
     Less,
     Same,

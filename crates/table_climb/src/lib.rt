@@ -1,4 +1,6 @@
 // Climbing from level to level: with a small index, then with a large one, which is used class by class once it cannot hold all entries.
+#![tactic(auto)]
+
 ghost use Rattle.std.specs.Prelude.{◌≡◌, true, ◌≤◌, ◌<◌, length};
 ghost use Rattle.table.specs.Table.{entry_count};
 ghost use Rattle.table.specs.Inner.{KeyLength};
@@ -16,7 +18,7 @@ const FEW: usize = 2048;
 const MANY: usize = 262144;
 
 // What climbing with one index came to: all levels, or a stage at which it was outgrown, or that the entries would not fit.
-#[derive(Drop)]
+#[derive(Clone, Copy)]
 pub enum Rise {
     To(usize),
     At(Stage),

@@ -1,5 +1,7 @@
 // One level of the table builder: every source of a stage is visited, and what it leads to is entered behind the entries that are there.
 // Entries stay in the order in which they are found, and an index tells which states are there.
+#![tactic(auto)]
+
 ghost use Rattle.std.specs.Prelude.{◌≡◌, false, ◌+◌, ◌*◌, ◌≤◌, ◌<◌, length, get_or};
 ghost use Rattle.generic_cube.specs.Sizes.{stickers};
 ghost use Rattle.table.specs.Entries.{entry_key};
@@ -13,7 +15,7 @@ use ground::codes::MoveCode;
 use key_index::{CLASSES, Classes, Found};
 
 // What a stretch of a level came to: how many entries there are at its end, or where a run of the index was full, or the slice is full.
-#[derive(Drop)]
+#[derive(Clone, Copy)]
 pub enum Stretch {
     Went(usize),
     Crowded(usize),
@@ -21,7 +23,7 @@ pub enum Stretch {
 }
 
 // How many entries there are, or that they would not fit.
-#[derive(Drop)]
+#[derive(Clone, Copy)]
 pub enum Growth {
     To(usize),
     Over,
@@ -30,7 +32,7 @@ pub enum Growth {
 // Where building stands: the level whose entries get `number` is due, for the sources from `from` up to `last`; its entries begin at
 // `base`, and `count` are there. Sources are the starting cubes for level 0, else the entries of the level before. A small index serves
 // until it is outgrown.
-#[derive(Drop)]
+#[derive(Clone, Copy)]
 pub struct Stage {
     pub number: u8,
     pub from: usize,

@@ -1,1 +1,2 @@
 // The theory of the tables that are built: definitions in specs/, laws in proofs/, and no code.
+#![tactic(auto)]

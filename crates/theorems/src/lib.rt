@@ -1,1 +1,2 @@
 // Theorems that no code needs: they stand in specs/.
+#![tactic(auto)]

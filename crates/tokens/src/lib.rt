@@ -1,4 +1,6 @@
 // The words of a text and the grammar of a token: parse_scramble of scramble_parser.rs.
+#![tactic(auto)]
+
 ghost use Rattle.std.specs.Prelude.{◌≡◌, true, false, ◌<◌, ◌≤◌, get_or};
 ghost use Rattle.generic_cube.specs.Sizes.{sized};
 ghost use Rattle.tokens.specs.Token.{letter_of, letter_at, mark_of, digit_of, digits_of, number_of, token_width, is_wide_token, plain_kind, bad_digits, read_behind, read_token};
@@ -10,21 +12,21 @@ use ground::codes::MoveCode;
 pub mod words;
 
 // A token's answer: the code of a move, or the number of a refusal and its place in the token.
-#[derive(Drop)]
+#[derive(Clone, Copy)]
 pub enum Token {
     Is(MoveCode),
     Not(u8, usize),
 }
 
 // A suffix: its turn, and how many bytes it takes.
-#[derive(Drop)]
+#[derive(Clone, Copy)]
 pub struct Mark {
     pub turn: usize,
     pub size: usize,
 }
 
 // What follows a place of the text: a word, or nothing more.
-#[derive(Drop)]
+#[derive(Clone, Copy)]
 pub enum Next {
     End,
     Word { start: usize, end: usize },
