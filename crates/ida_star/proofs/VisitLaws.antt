@@ -1,5 +1,5 @@
 -- One visit, as its code takes it: the path, the work area, and candidate by candidate.
-use Prim.Native.Nat.{ℕ, suc, ◌+◌, ◌-◌, ◌*◌, ◌≤◌, ◌<◌}
+use Prim.Native.Nat.{ℕ, zero, suc, ◌+◌, ◌-◌, ◌*◌, ◌≤◌, ◌<◌}
 use mathlib.Core.Path.{◌≡◌, refl, sym, ap, ap₂, subst, ◌∙◌}
 use mathlib.Core.Bool.{Bool, true, false}
 use mathlib.Core.List.{List, [], ◌∷◌, ◌++◌, append_assoc}
@@ -108,9 +108,11 @@ pub level_one : (left s w : ℕ) → (left + 1) * s ≤ w → s ≤ w
 level_one left s w h = omega (arith, suc-mul left s, ap (λ x. x * s) (add-one left))
 
 pub level_two : (left s w : ℕ) → 0 < left → (left + 1) * s ≤ w → s + s ≤ w
+level_two zero s w pos h = elim pos [ ]
 level_two (suc k) s w pos h = omega (arith, suc-mul (k + 1) s, suc-mul k s, ap (λ x. x * s) (add-one k))
 
 pub level_down : (left s w : ℕ) → 0 < left → (left + 1) * s ≤ w → (left - 1 + 1) * s + s ≤ w
+level_down zero s w pos h = elim pos [ ]
 level_down (suc k) s w pos h =
     let e : suc k - 1 + 1 ≡ suc k = omega arith in
     let d : suc k + 1 ≡ suc (suc k) = omega arith in

@@ -36,6 +36,7 @@ module _ (x y : Entry) (ys : List Entry) where
 -- what is there stays
 pub add_old : (x : Entry) (table : List Entry) {z : Entry} → Memᴰ z table → Memᴰ z (add x table)
 unfolding add
+add_old x [] {z} m = elim m [ ]
 add_old x (y ∷ ys) {z} m =
     order_split (order_of y.key x.key)
     (λ e. rw e (⊎_elim (λ h. Memᴰ.head h) (λ n. Memᴰ.tail (add_old x ys n)) (Memᴰ.cases_cons m)))

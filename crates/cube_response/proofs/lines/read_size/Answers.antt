@@ -1,0 +1,40 @@
+-- `read_size`: the tests of `size_of`, one after the other.
+use mathlib.Core.Path.{◌≡◌, sym, ◌∙◌}
+use mathlib.Core.Bool.{false}
+use Rattle.generic_cube.specs.Code.{outside}
+use Rattle.generic_cube.proofs.CodeLaws.{inside}
+use Rattle.cube_response.proofs.ProgramLaws.{size_other, size_long, size_zero, size_large, size_is}
+use native.Mathlib.Omega.{arith}
+use Rattle.cube_response.proofs.lines.read_size.Goals as goal
+
+pub returns-then-k-one : goal.returns-then-k-one
+returns-then-k-one c = size_other _ c.digits-k.ensures.0 c.if-k-one.true
+
+pub returns-then-is_outside : goal.returns-then-is_outside
+returns-then-is_outside c = size_long _ c.digits-k.ensures.0 c.if-k-one.false (sym c.is_outside.ensures ∙ c.if-is_outside.true)
+
+pub bounds-one-0 : goal.bounds-one-0
+bounds-one-0 c =
+    let few : outside 1 2 c.digits-k.result ≡ false =
+        sym c.is_outside.ensures ∙ c.if-is_outside.false in
+    omega (arith, c.if-k-one.false, (inside 1 2 _ (few)).0)
+
+pub returns-then-one-eq48 : goal.returns-then-one-eq48
+returns-then-one-eq48 c =
+    let few : outside 1 2 c.digits-k.result ≡ false =
+        sym c.is_outside.ensures ∙ c.if-is_outside.false in
+    size_zero _ c.digits-k.ensures.0 c.if-k-one.false (few) c.if-one-eq48.true
+
+pub returns-then-n-gt20 : goal.returns-then-n-gt20
+returns-then-n-gt20 c =
+    let few : outside 1 2 c.digits-k.result ≡ false =
+        sym c.is_outside.ensures ∙ c.if-is_outside.false in
+    size_large _ c.digits-k.ensures.0 c.if-k-one.false (few) c.if-one-eq48.false
+    c.number-n.ensures c.if-n-gt20.true
+
+pub returns : goal.returns
+returns c =
+    let few : outside 1 2 c.digits-k.result ≡ false =
+        sym c.is_outside.ensures ∙ c.if-is_outside.false in
+    size_is _ c.digits-k.ensures.0 c.if-k-one.false (few) c.if-one-eq48.false
+    c.number-n.ensures c.if-n-gt20.false

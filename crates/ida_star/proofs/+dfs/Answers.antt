@@ -1,0 +1,62 @@
+-- `dfs`: the answer is that of the candidates from i on; each call has one move less.
+use Prim.Native.Nat.{◌<◌}
+use mathlib.Core.Path.{refl, sym, ◌∙◌}
+use mathlib.Core.Logic.{⊎_elim}
+use native.Mathlib.Omega.{arith}
+use borrow.Author.Tests.{not-true, not-false}
+use Rattle.generic_cube.proofs.CodeLaws.{list_code, list_fair}
+use Rattle.geometric_moves.proofs.MovedLaws.{length_moved}
+use Rattle.ida_star.proofs.VisitLaws.{visit_goal, visit_above, try_start, try_skip, try_end, level_two, try_next, try_found}
+use Rattle.ida_star.proofs.Tags.{tag_not_found}
+use Rattle.ida_star.proofs.+dfs.Goals as goal
+
+pub returns-then-number-eq0 : goal.returns-then-number-eq0
+returns-then-number-eq0 t c =
+    visit_goal (sym c.number-number.ensures ∙ c.if-number-eq0.true) (omega (arith, c.requires.1.slots))
+
+pub returns-then-left-number : goal.returns-then-left-number
+returns-then-left-number t c =
+    let e = c.number-number.ensures in
+    visit_above (λ d. c.if-number-eq0.false (e ∙ d)) (omega (arith, e, c.if-left-number.true))
+
+pub loop-i-init : goal.loop-i-init
+loop-i-init t c =
+    let e = c.number-number.ensures in
+    try_start (λ d. c.if-number-eq0.false (e ∙ d)) (omega (arith, e, c.if-left-number.false))
+
+pub turn_level-requires : goal.turn_level-requires
+turn_level-requires t c =
+    let some_left : 0 < c.args.left =
+        omega (arith, c.if-number-eq0.false, c.if-left-number.false) in
+    let r = c.requires.1 in
+    let l = c.loop-i in
+    record {
+      some = r.given.some;
+      size = r.given.size;
+      code = list_code _ _ r.given.listed l.i c.loop-i-test.true;
+      fair = list_fair _ _ r.given.listed l.i r.given.some c.loop-i-test.true;
+      room = omega (arith, level_two _ _ _ (some_left) r.room, l.invariant.long);
+    }
+
+pub returns-in-Found : goal.returns-in-Found
+returns-in-Found t c =
+    let some_left : 0 < c.args.left =
+        omega (arith, c.if-number-eq0.false, c.if-left-number.false) in
+    try_found (λ x y. length_moved _ _ _) (some_left) c.requires.1.room c.requires.1.slots c.loop-i.invariant c.loop-i-test.true c.turn_level.ensures refl
+    (sym c.path_bars.ensures ∙ c.if-not-path_bars.true) c.dfs-r.ensures c.dfs-r.auto.path c.dfs-r.auto.work
+    refl refl c.in-Found.is
+
+pub loop-i-preserved : goal.loop-i-preserved
+loop-i-preserved t c =
+    let some_left : 0 < c.args.left =
+        omega (arith, c.if-number-eq0.false, c.if-left-number.false) in
+    let l = c.loop-i.invariant in
+    let b = c.path_bars.ensures in
+    ⊎_elim
+    (λ w. try_next (λ x y. length_moved _ _ _) (some_left) c.requires.1.room c.requires.1.slots l c.loop-i-test.true w.2.ensures refl
+    (sym b ∙ not-true _ w.0.true) w.7.ensures w.7.kept.1.1.1.1.1.0 w.7.kept.1.1.1.1.0 w.14 w.13 (tag_not_found _ w.12.keys2))
+    (λ w. try_skip l c.loop-i-test.true (sym b ∙ not-false _ w.0.false) w.2 w.1)
+    c.if-not-path_bars.branch
+
+pub returns : goal.returns
+returns t c = try_end c.loop-i.invariant c.loop-i-test.false

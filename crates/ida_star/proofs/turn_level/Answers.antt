@@ -1,0 +1,39 @@
+-- `turn_level`: the second level becomes a copy of the first, then the copy turned; the code is one that is taken.
+use Prim.Native.Nat.{◌+◌, ◌-◌}
+use mathlib.Core.Path.{◌≡◌, refl, sym, ap₂, subst, ◌∙◌}
+use mathlib.Core.Bool.{true≢false}
+use native.Mathlib.Omega.{arith}
+use Rattle.generic_cube.specs.Sizes.{stickers}
+use Rattle.generic_cube.specs.Code.{move_of}
+use Rattle.generic_cube.specs.Inner.{Fair}
+use Rattle.generic_cube.proofs.CodeLaws.{taken, refused}
+use Rattle.geometric_moves.specs.Turn.{moved}
+use Rattle.ida_star.proofs.VisitLaws.{second_long, put_next}
+use Rattle.ida_star.proofs.turn_level.Goals as goal
+
+pub returns-in_default : goal.returns-in_default
+returns-in_default c =
+    absurd (true≢false (sym (refused _ _ (sym c.in_default.is ∙ c.read_code.ensures)) ∙ c.requires.code))
+
+pub apply_move-requires : goal.apply_move-requires
+apply_move-requires c =
+    let move-is : c.in-Taken.m ≡ move_of c.args.code =
+        (taken _ _ (sym c.in-Taken.is ∙ c.read_code.ensures)).0 in
+    let s = stickers c.args.n in
+    let e : s + s - s ≡ s = omega arith in
+    let long = second_long s c.args.work.now c.requires.room e c.double.ensures in
+    record {
+      sized = record { some = c.requires.some; size = omega (arith, c.requires.size) };
+      fair = subst (Fair c.args.n) (sym (move-is)) c.requires.fair;
+      old_long = long;
+      new_long = long;
+    }
+
+pub returns : goal.returns
+returns c =
+    let move-is : c.in-Taken.m ≡ move_of c.args.code =
+        (taken _ _ (sym c.in-Taken.is ∙ c.read_code.ensures)).0 in
+    let s = stickers c.args.n in
+    let e : s + s - s ≡ s = omega arith in
+    put_next s c.args.work.now c.requires.room e c.double.ensures (moved c.args.n (move_of c.args.code))
+    (c.apply_move.ensures ∙ ap₂ (moved c.args.n) (move-is) refl)
