@@ -7,7 +7,7 @@ import re
 ROOT = os.path.dirname(os.path.dirname(os.path.abspath(__file__)))
 HEAD = re.compile(r"^(?P<marks>(?:abbrev |unfoldable |pub )*)(?:(?P<kind>record|data) )?(?P<name>[^\s:{(]+)(?: \{[^}]*\})?(?: .*)?$")
 SIGNATURE = re.compile(r"^(?:abbrev |unfoldable |pub )*[^\s:{(]+(?: \{[^}]*\})? *:")
-USE = re.compile(r"^(?:ghost )?use Rattle·(?P<crate>[A-Za-z0-9_]+)(?:·specs|·proofs)?\.(?P<path>[^\s{]+?)(?:\.\{(?P<names>.*)\}| as (?P<alias>\S+?))?;?$")
+USE = re.compile(r"^(?:ghost )?use Rattle\.(?P<crate>[A-Za-z0-9_]+)\.(?P<path>(?:specs|proofs)\.[^\s{]+?)(?:\.\{(?P<names>.*)\}| as (?P<alias>\S+?))?;?$")
 WORD = re.compile(r"[^\s(){};,\[\]|⌜⌝«»⟦⟧\"]+")
 
 
@@ -83,8 +83,8 @@ def items(path):
 
 def belongs(item, code):
     """Whether a line at the item's own indentation is one of its clauses."""
-    if "_" in item.name and item.name.startswith("_"):
-        return all(part in code.split("=")[0].split() for part in item.name.split("_") if part)
+    if item.name.startswith("◌"):
+        return all(part in code.split("=")[0].split() for part in item.name.split("◌") if part)
     return bool(re.match(re.escape(item.name) + r"(?=[\s=(]|$)", code)) and not SIGNATURE.match(code)
 
 
@@ -114,7 +114,7 @@ class House:
     """Every item of the repository, where each name stands, and what each file imports."""
 
     def __init__(self):
-        self.crates = [l.split(":")[0] for l in open(os.path.join(ROOT, "crates.txt"), encoding="utf-8") if ":" in l and not l.startswith("#")]
+        self.crates = [l.split(":")[0].split()[0] for l in open(os.path.join(ROOT, "crates.txt"), encoding="utf-8") if ":" in l and not l.startswith("#")]
         self.modules, self.uses, self.types = {}, {}, {}
         for crate in self.crates:
             base = os.path.join(ROOT, "crates", crate)
@@ -134,7 +134,7 @@ class House:
 
     def named(self, crate, module, name):
         """The item of that name in a module, a record's or datatype's part standing for the whole."""
-        key = module[: -len(".the-variants")] if module.endswith(".the-variants") else module
+        key = module[: -len(".TheVariants")] if module.endswith(".TheVariants") else module
         if (crate, key) in self.types:
             return self.types[(crate, key)]
         for item in self.modules.get((crate, module), []):
@@ -187,8 +187,8 @@ class House:
                 if piece in names and rest:
                     found.add(names[piece])
         for name in names:
-            pieces = [p for p in name.split("_") if p]
-            if name.startswith("_") and name.endswith("_") and pieces and all(re.search(r"(?<!\S)" + re.escape(p) + r"(?!\S)", text) for p in pieces):
+            pieces = [p for p in name.split("◌") if p]
+            if name.startswith("◌") and name.endswith("◌") and pieces and all(re.search(r"(?<!\S)" + re.escape(p) + r"(?!\S)", text) for p in pieces):
                 found.add(names[name])
         return found
 
@@ -205,5 +205,5 @@ def contracts(path):
     for match in re.finditer(r"^(?P<head>[^\n/]*\bfn (?P<name>[a-z0-9_]+)\()", text, re.M):
         body = re.search(r"\n *\{\n", text[match.start():])
         clause = text[match.start(): match.start() + body.start()] if body else ""
-        found.append((match.group("name"), 'extern "C"' in match.group("head"), "\n".join(re.findall(r"(?:requires|ensures|ghost) \{.*", clause))))
+        found.append((match.group("name"), 'extern "C"' in match.group("head"), "\n".join(re.findall(r"(?:requires|ensures|ghost)(?: [a-z_]+)? \{.*", clause))))
     return found, uses

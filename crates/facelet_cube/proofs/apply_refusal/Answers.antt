@@ -14,17 +14,17 @@ use Rattle.facelet_cube.proofs.apply_refusal.Goals as goal
 pub overflow_mul-count : goal.overflow_mul-count
 overflow_mul-count c =
     let sized-is : sized c.args.n ≡ true =
-        sym c.is_size.ensures ∙ c.if-is_size.true in
+    sym c.is_size.ensures ∙ c.if-is_size.true in
     let size : Sized c.args.n =
-        size_in_range (sized-is) in
+    size_in_range (sized-is) in
     omega (arith, size)
 
 pub overflow_mul-count-then-is_size : goal.overflow_mul-count-then-is_size
 overflow_mul-count-then-is_size c =
     let sized-is : sized c.args.n ≡ true =
-        sym c.is_size.ensures ∙ c.if-is_size.true in
+    sym c.is_size.ensures ∙ c.if-is_size.true in
     let size : Sized c.args.n =
-        size_in_range (sized-is) in
+    size_in_range (sized-is) in
     omega (arith, room c.args.n (size).size)
 
 pub returns-then-cube-count : goal.returns-then-cube-count
@@ -43,7 +43,7 @@ returns-then-work-count c =
 pub returns-then-is_size : goal.returns-then-is_size
 returns-then-is_size c =
     let sized-is : sized c.args.n ≡ true =
-        sym c.is_size.ensures ∙ c.if-is_size.true in
+    sym c.is_size.ensures ∙ c.if-is_size.true in
     let a = c.args in
     c.list_refusal.ensures
     ∙ sym (apply_list a.n a.cube a.work a.moves.now (sized-is) c.if-cube-count.false c.if-work-count.false)

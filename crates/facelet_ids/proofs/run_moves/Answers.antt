@@ -15,7 +15,7 @@ returns-in_default c =
 pub apply_move-requires : goal.apply_move-requires
 apply_move-requires c =
     let read : (c.in-Taken.m ≡ move_of (get_or c.args.moves.now c.loop-i.i 0)) × Fair c.args.n c.in-Taken.m =
-        list_taken c.args.n c.args.moves.now c.requires.list c.requires.size.some c.loop-i-test.true
+    list_taken c.args.n c.args.moves.now c.requires.list c.requires.size.some c.loop-i-test.true
     (sym c.in-Taken.is ∙ c.read_code.ensures) in
     let l = c.loop-i.invariant in
     record { sized = c.requires.size; fair = (read).1; old_long = l.cube_long; new_long = l.cube_long }
@@ -23,7 +23,7 @@ apply_move-requires c =
 pub loop-i-preserved : goal.loop-i-preserved
 loop-i-preserved c =
     let read : (c.in-Taken.m ≡ move_of (get_or c.args.moves.now c.loop-i.i 0)) × Fair c.args.n c.in-Taken.m =
-        list_taken c.args.n c.args.moves.now c.requires.list c.requires.size.some c.loop-i-test.true
+    list_taken c.args.n c.args.moves.now c.requires.list c.requires.size.some c.loop-i-test.true
     (sym c.in-Taken.is ∙ c.read_code.ensures) in
     runs_more c.loop-i.invariant c.loop-i-test.true (read).0 c.apply_move.ensures
 

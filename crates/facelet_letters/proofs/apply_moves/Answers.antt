@@ -9,13 +9,13 @@ use Rattle.facelet_letters.proofs.apply_moves.Goals as goal
 pub run_moves-requires : goal.run_moves-requires
 run_moves-requires c =
     let allowed : let a = c.args in apply_refusal a.n (length a.cube.now) (length a.work.now) a.moves.now ≡ 0 =
-        sym c.apply_refusal-number.ensures ∙ c.if-number-ne0.false in
+    sym c.apply_refusal-number.ensures ∙ c.if-number-ne0.false in
     let a = c.args in runnable_cube (runnable a.n _ (length a.work.now) a.moves.now (allowed))
 
 pub returns : goal.returns
 returns c =
     let allowed : let a = c.args in apply_refusal a.n (length a.cube.now) (length a.work.now) a.moves.now ≡ 0 =
-        sym c.apply_refusal-number.ensures ∙ c.if-number-ne0.false in
+    sym c.apply_refusal-number.ensures ∙ c.if-number-ne0.false in
     let a = c.args in
     let e = allowed in
     apply_done a.n a.cube.now a.work.now a.moves.now e c.run_moves.ensures

@@ -25,10 +25,10 @@ loop-i-preserved c =
     let t = taken (get_or a.list.now l.i 0) _ (sym c.in-Taken.is ∙ c.read_code.ensures) in
     let w = c.is_bad_width.ensures ∙ ap (bad_width_in a.low a.high) t.0 in
     let n : c.if-is_bad_width.number ≡ pick c.is_bad_width.result 5 l.number =
-        elim c.if-is_bad_width.branch [
-          then-is_bad_width z ↦ z.number-is ∙ ap (λ b. pick b 5 l.number) (sym z.if-is_bad_width.true)
-        | else-is_bad_width z ↦ z.number-is ∙ ap (λ b. pick b 5 l.number) (sym z.if-is_bad_width.false)
-        ] in
+    elim c.if-is_bad_width.branch [
+      | then-is_bad_width z ↦ z.number-is ∙ ap (λ b. pick b 5 l.number) (sym z.if-is_bad_width.true)
+      | else-is_bad_width z ↦ z.number-is ∙ ap (λ b. pick b 5 l.number) (sym z.if-is_bad_width.false)
+    ] in
     (omega arith, walk_next a.low a.high l.number a.list.now l.i h t.1 w n ∙ l.invariant.1)
 
 pub returns : goal.returns

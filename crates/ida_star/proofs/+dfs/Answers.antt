@@ -9,10 +9,11 @@ use Rattle.geometric_moves.proofs.MovedLaws.{length_moved}
 use Rattle.ida_star.proofs.VisitLaws.{visit_goal, visit_above, try_start, try_skip, try_end, level_two, try_next, try_found}
 use Rattle.ida_star.proofs.Tags.{tag_not_found}
 use Rattle.ida_star.proofs.+dfs.Goals as goal
+use Rattle.ida_star.proofs.+dfs.Goals.{then-not-path_bars+in_default, else-not-path_bars}
 
 pub returns-then-number-eq0 : goal.returns-then-number-eq0
 returns-then-number-eq0 t c =
-    visit_goal (sym c.number-number.ensures ∙ c.if-number-eq0.true) (omega (arith, c.requires.1.slots))
+    visit_goal (sym c.number-number.ensures ∙ c.if-number-eq0.true) (omega (arith, c.requires.slots))
 
 pub returns-then-left-number : goal.returns-then-left-number
 returns-then-left-number t c =
@@ -27,8 +28,8 @@ loop-i-init t c =
 pub turn_level-requires : goal.turn_level-requires
 turn_level-requires t c =
     let some_left : 0 < c.args.left =
-        omega (arith, c.if-number-eq0.false, c.if-left-number.false) in
-    let r = c.requires.1 in
+    omega (arith, c.if-number-eq0.false, c.if-left-number.false) in
+    let r = c.requires in
     let l = c.loop-i in
     record {
       some = r.given.some;
@@ -41,22 +42,23 @@ turn_level-requires t c =
 pub returns-in-Found : goal.returns-in-Found
 returns-in-Found t c =
     let some_left : 0 < c.args.left =
-        omega (arith, c.if-number-eq0.false, c.if-left-number.false) in
-    try_found (λ x y. length_moved _ _ _) (some_left) c.requires.1.room c.requires.1.slots c.loop-i.invariant c.loop-i-test.true c.turn_level.ensures refl
+    omega (arith, c.if-number-eq0.false, c.if-left-number.false) in
+    try_found (λ x y. length_moved _ _ _) (some_left) c.requires.room c.requires.slots c.loop-i.invariant c.loop-i-test.true c.turn_level.ensures refl
     (sym c.path_bars.ensures ∙ c.if-not-path_bars.true) c.dfs-r.ensures c.dfs-r.auto.path c.dfs-r.auto.work
     refl refl c.in-Found.is
 
 pub loop-i-preserved : goal.loop-i-preserved
 loop-i-preserved t c =
     let some_left : 0 < c.args.left =
-        omega (arith, c.if-number-eq0.false, c.if-left-number.false) in
+    omega (arith, c.if-number-eq0.false, c.if-left-number.false) in
     let l = c.loop-i.invariant in
     let b = c.path_bars.ensures in
-    ⊎_elim
-    (λ w. try_next (λ x y. length_moved _ _ _) (some_left) c.requires.1.room c.requires.1.slots l c.loop-i-test.true w.2.ensures refl
-    (sym b ∙ not-true _ w.0.true) w.7.ensures w.7.kept.1.1.1.1.1.0 w.7.kept.1.1.1.1.0 w.14 w.13 (tag_not_found _ w.12.keys2))
-    (λ w. try_skip l c.loop-i-test.true (sym b ∙ not-false _ w.0.false) w.2 w.1)
-    c.if-not-path_bars.branch
+    elim c.if-not-path_bars.branch [
+      | then-not-path_bars+in_default w ↦
+          try_next (λ x y. length_moved _ _ _) some_left c.requires.room c.requires.slots l c.loop-i-test.true w.turn_level.ensures refl
+          (sym b ∙ w.if-not-path_bars.true) w.dfs-r.ensures w.dfs-r.auto.path w.dfs-r.auto.work w.path-is w.work-is w.in_default.not-Found
+      | else-not-path_bars w ↦ try_skip l c.loop-i-test.true (sym b ∙ w.if-not-path_bars.false) w.path-is w.work-is
+    ]
 
 pub returns : goal.returns
 returns t c = try_end c.loop-i.invariant c.loop-i-test.false

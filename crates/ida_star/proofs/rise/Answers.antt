@@ -6,7 +6,6 @@ use native.Mathlib.Omega.{arith}
 use lib.ListN.{length, take, drop}
 use lib.Seq.{length-take-le, length_front}
 use Rattle.ida_star.proofs.PassesLaws.{passes_start, passes-next, passes_hit}
-use Rattle.ida_star.proofs.Tags.{tag_not_found}
 use Rattle.ida_star.proofs.rise.Goals as goal
 
 pub loop-left-init : goal.loop-left-init
@@ -15,9 +14,9 @@ loop-left-init c = (passes_start, refl)
 pub returns-in-Found : goal.returns-in-Found
 returns-in-Found c =
     let slots_lent : length (take c.args.limit c.loop-left.path) ≡ c.args.limit =
-        length-take-le _ c.loop-left.path (omega (arith, c.loop-left.invariant.1, c.requires.0.low)) in
+    length-take-le _ c.loop-left.path (omega (arith, c.loop-left.invariant.1, c.requires.starting.low)) in
     let slots-back : length c.pass-r.new.path ≡ c.args.limit =
-        c.pass-r.auto.path ∙ slots_lent in
+    c.pass-r.auto.path ∙ slots_lent in
     passes_hit c.loop-left.invariant.0 c.loop-left-test.true c.pass-r.ensures c.in-Found.is
     (drop c.args.limit c.loop-left.path) (slots-back)
     (ap (λ x. x ++ drop c.in-Found.count c.loop-left.out) c.copy.ensures)
@@ -25,5 +24,5 @@ returns-in-Found c =
 pub loop-left-preserved : goal.loop-left-preserved
 loop-left-preserved c =
     let array_back : length (c.pass-r.new.path ++ drop c.args.limit c.loop-left.path) ≡ 20 =
-        length_front c.loop-left.path c.pass-r.new.path c.args.limit c.pass-r.auto.path ∙ c.loop-left.invariant.1 in
-    (passes-next c.loop-left.invariant.0 c.loop-left-test.true c.pass-r.ensures (tag_not_found _ c.in-Found.keys2) c.pass-r.auto.work, array_back)
+    length_front c.loop-left.path c.pass-r.new.path c.args.limit c.pass-r.auto.path ∙ c.loop-left.invariant.1 in
+    (passes-next c.loop-left.invariant.0 c.loop-left-test.true c.pass-r.ensures (c.in_default.not-Found) c.pass-r.auto.work, array_back)

@@ -18,7 +18,7 @@ returns-in_default c =
 pub apply_move-requires : goal.apply_move-requires
 apply_move-requires c =
     let move-is : c.in-Taken.m ≡ move_of c.args.code =
-        (taken _ _ (sym c.in-Taken.is ∙ c.read_code.ensures)).0 in
+    (taken _ _ (sym c.in-Taken.is ∙ c.read_code.ensures)).0 in
     let s = stickers c.args.n in
     let e : s + s - s ≡ s = omega arith in
     let long = second_long s c.args.work.now c.requires.room e c.double.ensures in
@@ -32,7 +32,7 @@ apply_move-requires c =
 pub returns : goal.returns
 returns c =
     let move-is : c.in-Taken.m ≡ move_of c.args.code =
-        (taken _ _ (sym c.in-Taken.is ∙ c.read_code.ensures)).0 in
+    (taken _ _ (sym c.in-Taken.is ∙ c.read_code.ensures)).0 in
     let s = stickers c.args.n in
     let e : s + s - s ≡ s = omega arith in
     put_next s c.args.work.now c.requires.room e c.double.ensures (moved c.args.n (move_of c.args.code))

@@ -13,18 +13,18 @@ returns-in_default c = count_end c.loop-start.invariant (none_left [] _ _ c.in_d
 pub loop-start-preserved : goal.loop-start-preserved
 loop-start-preserved c =
     let word : Found [] c.args.text.now c.loop-start.i c.in-Word.start c.in-Word.end =
-        found [] c.args.text.now c.loop-start.i c.in-Word.is c.next_token.ensures in
+    found [] c.args.text.now c.loop-start.i c.in-Word.is c.next_token.ensures in
     count_more c.loop-start.invariant (word) (sym c.in-Is.is ∙ c.read_token.ensures)
 
 pub overflow_add-at : goal.overflow_add-at
 overflow_add-at c =
     let word : Found [] c.args.text.now c.loop-start.i c.in-Word.start c.in-Word.end =
-        found [] c.args.text.now c.loop-start.i c.in-Word.is c.next_token.ensures in
+    found [] c.args.text.now c.loop-start.i c.in-Word.is c.next_token.ensures in
     let w = bad_within c.loop-start.invariant (word) (sym c.in-Not.is ∙ c.read_token.ensures) in
     omega arith
 
 pub returns-in-Not : goal.returns-in-Not
 returns-in-Not c =
     let word : Found [] c.args.text.now c.loop-start.i c.in-Word.start c.in-Word.end =
-        found [] c.args.text.now c.loop-start.i c.in-Word.is c.next_token.ensures in
+    found [] c.args.text.now c.loop-start.i c.in-Word.is c.next_token.ensures in
     count_bad c.loop-start.invariant (word) (sym c.in-Not.is ∙ c.read_token.ensures)

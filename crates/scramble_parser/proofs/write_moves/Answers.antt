@@ -18,23 +18,23 @@ returns-in_default c = store_end c.loop-start.invariant (none_left [] _ _ c.in_d
 pub returns-in_default-read_token : goal.returns-in_default-read_token
 returns-in_default-read_token c =
     let word : Found [] c.args.text.now c.loop-start.i c.in-Word.start c.in-Word.end =
-        found [] c.args.text.now c.loop-start.i c.in-Word.is c.next_token.ensures in
+    found [] c.args.text.now c.loop-start.i c.in-Word.is c.next_token.ensures in
     store_bad c.loop-start.invariant (word) (sym c.in_default-read_token.is ∙ c.read_token.ensures)
 
 pub bounds-out-j : goal.bounds-out-j
 bounds-out-j c =
     let word : Found [] c.args.text.now c.loop-start.i c.in-Word.start c.in-Word.end =
-        found [] c.args.text.now c.loop-start.i c.in-Word.is c.next_token.ensures in
+    found [] c.args.text.now c.loop-start.i c.in-Word.is c.next_token.ensures in
     let code : Is c.in-Is.code ≡ read_token c.args.n (take (c.in-Word.end - c.in-Word.start) (drop c.in-Word.start c.args.text.now)) =
-        sym c.in-Is.is ∙ c.read_token.ensures in
+    sym c.in-Is.is ∙ c.read_token.ensures in
     let room : c.loop-start.j < length c.loop-start.out =
-        store_room c.loop-start.invariant (word) (code) in
+    store_room c.loop-start.invariant (word) (code) in
     room
 
 pub loop-start-preserved : goal.loop-start-preserved
 loop-start-preserved c =
     let word : Found [] c.args.text.now c.loop-start.i c.in-Word.start c.in-Word.end =
-        found [] c.args.text.now c.loop-start.i c.in-Word.is c.next_token.ensures in
+    found [] c.args.text.now c.loop-start.i c.in-Word.is c.next_token.ensures in
     let code : Is c.in-Is.code ≡ read_token c.args.n (take (c.in-Word.end - c.in-Word.start) (drop c.in-Word.start c.args.text.now)) =
-        sym c.in-Is.is ∙ c.read_token.ensures in
+    sym c.in-Is.is ∙ c.read_token.ensures in
     store_more c.loop-start.invariant (word) (code)

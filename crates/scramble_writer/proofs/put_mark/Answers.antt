@@ -11,23 +11,23 @@ returns-then-turn-eq1 c = rw (mark_none c.if-turn-eq1.true) put_none
 pub put_byte-requires : goal.put_byte-requires
 put_byte-requires c =
     let half : mark_text c.args.turn ≡ 50 ∷ [] =
-        mark_half c.if-turn-eq1.false c.if-turn-eq2.true in
+    mark_half c.if-turn-eq1.false c.if-turn-eq2.true in
     rw (half) at c.requires
 
 pub returns-then-turn-eq2 : goal.returns-then-turn-eq2
 returns-then-turn-eq2 c =
     let half : mark_text c.args.turn ≡ 50 ∷ [] =
-        mark_half c.if-turn-eq1.false c.if-turn-eq2.true in
+    mark_half c.if-turn-eq1.false c.if-turn-eq2.true in
     rw (half) c.put_byte.ensures
 
 pub put_byte-requires-2 : goal.put_byte-requires-2
 put_byte-requires-2 c =
     let back : mark_text c.args.turn ≡ 39 ∷ [] =
-        mark_back c.if-turn-eq1.false c.if-turn-eq2.false in
+    mark_back c.if-turn-eq1.false c.if-turn-eq2.false in
     rw (back) at c.requires
 
 pub returns : goal.returns
 returns c =
     let back : mark_text c.args.turn ≡ 39 ∷ [] =
-        mark_back c.if-turn-eq1.false c.if-turn-eq2.false in
+    mark_back c.if-turn-eq1.false c.if-turn-eq2.false in
     rw (back) c.put_byte-2.ensures

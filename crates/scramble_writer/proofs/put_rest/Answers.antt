@@ -14,14 +14,14 @@ pub put_byte-token-requires : goal.put_byte-token-requires
 unfolding rest_text
 put_byte-token-requires c =
     let room : c.loop-i.at + (1 + length (text_of (get_or c.args.list.now c.loop-i.i 0))) ≤ length c.loop-i.out =
-        let h = loop_fits c.requires c.loop-i.invariant c.loop-i-test.true in omega arith in
+    let h = loop_fits c.requires c.loop-i.invariant c.loop-i-test.true in omega arith in
     let h = room in omega arith
 
 pub put_code-at-requires : goal.put_code-at-requires
 unfolding rest_text
 put_code-at-requires c =
     let room : c.loop-i.at + (1 + length (text_of (get_or c.args.list.now c.loop-i.i 0))) ≤ length c.loop-i.out =
-        let h = loop_fits c.requires c.loop-i.invariant c.loop-i-test.true in omega arith in
+    let h = loop_fits c.requires c.loop-i.invariant c.loop-i-test.true in omega arith in
     put_room _ c.put_byte-token.ensures (room)
 
 pub loop-i-preserved : goal.loop-i-preserved

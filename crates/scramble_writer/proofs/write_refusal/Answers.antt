@@ -19,14 +19,14 @@ pub returns-then-text_fits : goal.returns-then-text_fits
 unfolding write_refusal refusal_in
 returns-then-text_fits c =
     let fits : length (list_text c.args.list.now) ≤ c.args.room =
-        leb-true _ _ (sym c.text_fits.ensures ∙ c.if-text_fits.true) in
+    leb-true _ _ (sym c.text_fits.ensures ∙ c.if-text_fits.true) in
     let a = c.args in fill_fits _ (length (list_text a.list.now)) a.room (rows_in 2 (a.n - 1) a.list.now) (sym c.is_size.ensures ∙ c.if-is_size.true) c.refusal_in-number.ensures refl c.if-number-ne0.false (fits)
 
 pub returns-then-is_size : goal.returns-then-is_size
 unfolding write_refusal refusal_in
 returns-then-is_size c =
     let short : c.args.room < length (list_text c.args.list.now) =
-        leb-false _ _ (sym c.text_fits.ensures ∙ c.if-text_fits.false) in
+    leb-false _ _ (sym c.text_fits.ensures ∙ c.if-text_fits.false) in
     let a = c.args in fill_short _ (length (list_text a.list.now)) a.room (rows_in 2 (a.n - 1) a.list.now) (sym c.is_size.ensures ∙ c.if-is_size.true) c.refusal_in-number.ensures refl c.if-number-ne0.false (short)
 
 pub returns : goal.returns

@@ -20,7 +20,7 @@ loop-i-init c = (omega arith, refl, refl, omega (arith, c.if-count-eq0.false), f
 pub loop-i-preserved : goal.loop-i-preserved
 loop-i-preserved c =
     let compared : order_of (entry_key c.args.m c.args.table.now c.loop-i.i) (entry_key c.args.m c.args.table.now (c.loop-i.i + 1)) ≡ c.compare-order.result =
-        order_told c.key_at.ensures c.key_at-in-loop-i.ensures c.compare-order.ensures in
+    order_told c.key_at.ensures c.key_at-in-loop-i.ensures c.compare-order.ensures in
     let l = c.loop-i in
     let o = ap is_less (compared) ∙ sym c.is_less.ensures ∙ c.if-is_less.true in
     (omega arith, refl, refl, l.invariant.3, l.invariant.4 ∙ rise_next _ l.i _ c.loop-i-test.true o)
@@ -28,7 +28,7 @@ loop-i-preserved c =
 pub returns-else-is_less : goal.returns-else-is_less
 returns-else-is_less c =
     let compared : order_of (entry_key c.args.m c.args.table.now c.loop-i.i) (entry_key c.args.m c.args.table.now (c.loop-i.i + 1)) ≡ c.compare-order.result =
-        order_told c.key_at.ensures c.key_at-in-loop-i.ensures c.compare-order.ensures in
+    order_told c.key_at.ensures c.key_at-in-loop-i.ensures c.compare-order.ensures in
     let l = c.loop-i in
     let o = ap is_less (compared) ∙ sym c.is_less.ensures ∙ c.if-is_less.false in
     sym (l.invariant.4 ∙ rise_fails _ l.i _ c.loop-i-test.true o)

@@ -17,11 +17,11 @@ compare-requires c =
 pub returns-in-Same : goal.returns-in-Same
 returns-in-Same c =
     let half_of : ℕ =
-        c.loop-span.span / 2 in
+    c.loop-span.span / 2 in
     let rising : Rising (entry_key c.args.m c.args.table.now) (entry_count c.args.m c.args.table.now) =
-        formed_rising _ _ c.requires.formed in
+    formed_rising _ _ c.requires.formed in
     let compared : order_of (entry_key c.args.m c.args.table.now (c.loop-span.low + half_of)) c.args.key.now ≡ c.compare.result =
-        order_told c.key_at.ensures refl c.compare.ensures in
+    order_told c.key_at.ensures refl c.compare.ensures in
     let a = c.args in
     c.number_at.ensures ∙ sym (number_look a.m a.table.now a.depth a.key.now
     ∙ look_found _ _ _ _ (rising) _ (c.loop-span.low + half_of) (omega (arith, c.loop-span.invariant.most)) (same_eq _ _ (compared ∙ c.in-Same.is)))
@@ -29,21 +29,21 @@ returns-in-Same c =
 pub loop-span-preserved-in-Less : goal.loop-span-preserved-in-Less
 loop-span-preserved-in-Less c =
     let half_of : ℕ =
-        c.loop-span.span / 2 in
+    c.loop-span.span / 2 in
     let rising : Rising (entry_key c.args.m c.args.table.now) (entry_count c.args.m c.args.table.now) =
-        formed_rising _ _ c.requires.formed in
+    formed_rising _ _ c.requires.formed in
     let compared : order_of (entry_key c.args.m c.args.table.now (c.loop-span.low + half_of)) c.args.key.now ≡ c.compare.result =
-        order_told c.key_at.ensures refl c.compare.ensures in
+    order_told c.key_at.ensures refl c.compare.ensures in
     half_less (rising) c.loop-span.invariant (half_of) (omega arith) (compared ∙ c.in-Less.is)
 
 pub loop-span-preserved : goal.loop-span-preserved
 loop-span-preserved c =
     let half_of : ℕ =
-        c.loop-span.span / 2 in
+    c.loop-span.span / 2 in
     let rising : Rising (entry_key c.args.m c.args.table.now) (entry_count c.args.m c.args.table.now) =
-        formed_rising _ _ c.requires.formed in
+    formed_rising _ _ c.requires.formed in
     let compared : order_of (entry_key c.args.m c.args.table.now (c.loop-span.low + half_of)) c.args.key.now ≡ c.compare.result =
-        order_told c.key_at.ensures refl c.compare.ensures in
+    order_told c.key_at.ensures refl c.compare.ensures in
     half_more (rising) c.loop-span.invariant (half_of) (omega arith) (compared ∙ c.in-More.is)
 
 pub returns : goal.returns

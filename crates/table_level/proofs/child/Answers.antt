@@ -20,7 +20,7 @@ returns-in_default c =
 pub compute_permutation-requires : goal.compute_permutation-requires
 compute_permutation-requires c =
     let taken : (c.in-Taken.turn ≡ move_of (get_or c.args.moves.now c.args.i 0)) × Fair c.args.n c.in-Taken.turn =
-        list_taken c.args.n c.args.moves.now c.requires.0.good c.requires.0.some c.requires.3 (sym c.in-Taken.is ∙ c.read_code.ensures) in
+    list_taken c.args.n c.args.moves.now c.requires.0.good c.requires.0.some c.requires.3 (sym c.in-Taken.is ∙ c.read_code.ensures) in
     let a = c.requires in
     record {
       sized = record { some = a.0.some; size = omega (arith, a.0.size) };
@@ -32,7 +32,7 @@ compute_permutation-requires c =
 pub returns : goal.returns
 returns c =
     let taken : (c.in-Taken.turn ≡ move_of (get_or c.args.moves.now c.args.i 0)) × Fair c.args.n c.in-Taken.turn =
-        list_taken c.args.n c.args.moves.now c.requires.0.good c.requires.0.some c.requires.3 (sym c.in-Taken.is ∙ c.read_code.ensures) in
+    list_taken c.args.n c.args.moves.now c.requires.0.good c.requires.0.some c.requires.3 (sym c.in-Taken.is ∙ c.read_code.ensures) in
     child_entered c.args.i _ _ c.requires.3
     (c.compute_permutation.ensures ∙ ap₂ (λ (m : Move) (s : List ℕ). moved c.args.n m s) (taken).0 c.key_at.ensures)
     c.enter.ensures

@@ -16,27 +16,27 @@ returns-then-count-table c = enter_full c.requires.2.room c.if-count-table.true 
 pub returns-then-classes : goal.returns-then-classes
 returns-then-classes c =
     let room : c.args.count < entry_count c.args.m c.args.table.now =
-        lt_of_le-ne c.requires.2.room c.if-count-table.false in
+    lt_of_le-ne c.requires.2.room c.if-count-table.false in
     enter_new c.requires.2 c.requires.1 (room) (c.find-found.ensures.gap _ c.in-Gap.is).0 c.append.ensures (λ e. absurd (true≢false (sym c.if-classes.true ∙ e)))
 
 pub offset_bounds-index-p : goal.offset_bounds-index-p
 offset_bounds-index-p c =
     let inside : c.in-Gap.p < length c.args.index.now =
-        free_inside (c.requires.2.filed c.if-classes.false) c.args.key.now ((c.find-found.ensures.gap _ c.in-Gap.is).1 c.if-classes.false) in
+    free_inside (c.requires.2.filed c.if-classes.false) c.args.key.now ((c.find-found.ensures.gap _ c.in-Gap.is).1 c.if-classes.false) in
     omega (arith, inside)
 
 pub bounds-index-p : goal.bounds-index-p
 bounds-index-p c =
     let inside : c.in-Gap.p < length c.args.index.now =
-        free_inside (c.requires.2.filed c.if-classes.false) c.args.key.now ((c.find-found.ensures.gap _ c.in-Gap.is).1 c.if-classes.false) in
+    free_inside (c.requires.2.filed c.if-classes.false) c.args.key.now ((c.find-found.ensures.gap _ c.in-Gap.is).1 c.if-classes.false) in
     omega (arith, inside)
 
 pub returns-else-classes : goal.returns-else-classes
 returns-else-classes c =
     let room : c.args.count < entry_count c.args.m c.args.table.now =
-        lt_of_le-ne c.requires.2.room c.if-count-table.false in
+    lt_of_le-ne c.requires.2.room c.if-count-table.false in
     let inside : c.in-Gap.p < length c.args.index.now =
-        free_inside (c.requires.2.filed c.if-classes.false) c.args.key.now ((c.find-found.ensures.gap _ c.in-Gap.is).1 c.if-classes.false) in
+    free_inside (c.requires.2.filed c.if-classes.false) c.args.key.now ((c.find-found.ensures.gap _ c.in-Gap.is).1 c.if-classes.false) in
     let absent = c.find-found.ensures.gap _ c.in-Gap.is in
     enter_new c.requires.2 c.requires.1 (room) absent.0 c.append.ensures
     (λ e. index_more _ _ _ (c.requires.2.filed e)

@@ -9,7 +9,7 @@ returns-then-place-eq9 c = out_letter _ _ 0 (bare_digits _ c.requires.1) (bare_n
 pub wide-requires : goal.wide-requires
 wide-requires c =
     let lettered : Lettered c.args.t.now 0 c.letter_at-place.result =
-        record {
+    record {
       digits = bare_digits _ c.requires.1;
       letter = c.letter_at-place.ensures.0;
       some = bare_letter _ c.letter_at-place.ensures.0 c.letter_at-place.ensures.1 c.if-place-eq9.false;
@@ -19,7 +19,7 @@ wide-requires c =
 pub plain-requires : goal.plain-requires
 plain-requires c =
     let lettered : Lettered c.args.t.now 0 c.letter_at-place.result =
-        record {
+    record {
       digits = bare_digits _ c.requires.1;
       letter = c.letter_at-place.ensures.0;
       some = bare_letter _ c.letter_at-place.ensures.0 c.letter_at-place.ensures.1 c.if-place-eq9.false;

@@ -13,7 +13,7 @@ returns-then-place-ge6 c = out_letter _ _ _ (sym c.has_bad_digits.ensures ∙ c.
 pub wide-requires : goal.wide-requires
 wide-requires c =
     let lettered : Lettered c.args.t.now c.args.k c.letter_at-place.result =
-        record {
+    record {
       digits = sym c.has_bad_digits.ensures ∙ c.if-has_bad_digits.false;
       letter = c.letter_at-place.ensures.0;
       some = face_letter _ c.requires.1 c.letter_at-place.ensures.0 c.if-place-ge6.false;
@@ -23,7 +23,7 @@ wide-requires c =
 pub returns : goal.returns
 returns c =
     let lettered : Lettered c.args.t.now c.args.k c.letter_at-place.result =
-        record {
+    record {
       digits = sym c.has_bad_digits.ensures ∙ c.if-has_bad_digits.false;
       letter = c.letter_at-place.ensures.0;
       some = face_letter _ c.requires.1 c.letter_at-place.ensures.0 c.if-place-ge6.false;

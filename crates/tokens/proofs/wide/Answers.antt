@@ -21,13 +21,13 @@ overflow_sub-n c = (sized_bounds _ c.requires.0).0
 pub returns-then-t-wide_end : goal.returns-then-t-wide_end
 returns-then-t-wide_end c =
     let wide : is_wide_token c.args.t.now c.args.k ≡ false → c.args.k ≡ 0 =
-        λ w. absurd (true≢false (sym c.requires.2 ∙ w)) in
+    λ w. absurd (true≢false (sym c.requires.2 ∙ w)) in
     out_left _ _ _ c.requires.1 (wide) (suffix_wide _ _ c.requires.2) c.suffix-mark.ensures.0 c.if-t-wide_end.true
 
 pub returns-then-unfit : goal.returns-then-unfit
 returns-then-unfit c =
     let wide : is_wide_token c.args.t.now c.args.k ≡ false → c.args.k ≡ 0 =
-        λ w. absurd (true≢false (sym c.requires.2 ∙ w)) in
+    λ w. absurd (true≢false (sym c.requires.2 ∙ w)) in
     out_width _ _ _ c.requires.1 (wide) (suffix_wide _ _ c.requires.2) c.suffix-mark.ensures.0 c.if-t-wide_end.false c.requires.2 c.width-width.ensures (sym c.is_outside-unfit.ensures ∙ c.if-unfit.true)
 
 pub overflow_add-kind : goal.overflow_add-kind
@@ -39,5 +39,5 @@ code_of-requires c = let s = sized_bounds _ c.requires.0 in let w = inside _ _ _
 pub returns : goal.returns
 returns c =
     let wide : is_wide_token c.args.t.now c.args.k ≡ false → c.args.k ≡ 0 =
-        λ w. absurd (true≢false (sym c.requires.2 ∙ w)) in
+    λ w. absurd (true≢false (sym c.requires.2 ∙ w)) in
     out_wide _ _ _ c.requires.1 (wide) (suffix_wide _ _ c.requires.2) c.suffix-mark.ensures.0 c.if-t-wide_end.false c.requires.2 c.width-width.ensures (sym c.is_outside-unfit.ensures ∙ c.if-unfit.false) c.code_of.ensures

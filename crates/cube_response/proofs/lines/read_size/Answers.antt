@@ -16,25 +16,25 @@ returns-then-is_outside c = size_long _ c.digits-k.ensures.0 c.if-k-one.false (s
 pub bounds-one-0 : goal.bounds-one-0
 bounds-one-0 c =
     let few : outside 1 2 c.digits-k.result ≡ false =
-        sym c.is_outside.ensures ∙ c.if-is_outside.false in
+    sym c.is_outside.ensures ∙ c.if-is_outside.false in
     omega (arith, c.if-k-one.false, (inside 1 2 _ (few)).0)
 
 pub returns-then-one-eq48 : goal.returns-then-one-eq48
 returns-then-one-eq48 c =
     let few : outside 1 2 c.digits-k.result ≡ false =
-        sym c.is_outside.ensures ∙ c.if-is_outside.false in
+    sym c.is_outside.ensures ∙ c.if-is_outside.false in
     size_zero _ c.digits-k.ensures.0 c.if-k-one.false (few) c.if-one-eq48.true
 
 pub returns-then-n-gt20 : goal.returns-then-n-gt20
 returns-then-n-gt20 c =
     let few : outside 1 2 c.digits-k.result ≡ false =
-        sym c.is_outside.ensures ∙ c.if-is_outside.false in
+    sym c.is_outside.ensures ∙ c.if-is_outside.false in
     size_large _ c.digits-k.ensures.0 c.if-k-one.false (few) c.if-one-eq48.false
     c.number-n.ensures c.if-n-gt20.true
 
 pub returns : goal.returns
 returns c =
     let few : outside 1 2 c.digits-k.result ≡ false =
-        sym c.is_outside.ensures ∙ c.if-is_outside.false in
+    sym c.is_outside.ensures ∙ c.if-is_outside.false in
     size_is _ c.digits-k.ensures.0 c.if-k-one.false (few) c.if-one-eq48.false
     c.number-n.ensures c.if-n-gt20.false

@@ -11,9 +11,9 @@ use Rattle.cube_response.proofs.response.put_cube.Goals as goal
 pub returns : goal.returns
 returns c =
     let below : stickers c.args.n < length c.args.out.now =
-        let h = twenty c.requires.0.most in omega (arith, c.requires.0.long) in
+    let h = twenty c.requires.0.most in omega (arith, c.requires.0.long) in
     let fits : stickers c.args.n ≤ length c.args.out.now =
-        let h = below in omega arith in
+    let h = below in omega arith in
     let long : length c.turn_solved.new.cube ≡ stickers c.args.n =
-        c.turn_solved.auto.cube ∙ length-take-le _ c.args.out.now (fits) in
+    c.turn_solved.auto.cube ∙ length-take-le _ c.args.out.now (fits) in
     cube_fed c.turn_solved.new.cube c.args.out.now c.turn_solved.ensures (long) (below)

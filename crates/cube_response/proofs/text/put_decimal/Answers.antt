@@ -10,5 +10,5 @@ use Rattle.cube_response.proofs.text.put_decimal.Goals as goal
 pub returns : goal.returns
 returns c =
     let few : length (take c.decimal-k.result c.decimal-k.new.out) ≤ 20 =
-        omega (arith, c.decimal-k.ensures.in_bounds.1, fewest_few c.args.x c.decimal-k.result c.ranges.x.fits c.decimal-k.ensures.len) in
+    omega (arith, c.decimal-k.ensures.in_bounds.1, fewest_few c.args.x c.decimal-k.result c.ranges.x.fits c.decimal-k.ensures.len) in
     put_number c.put.ensures (c.decimal-k.ensures.digits ∙ fewest_decimal _ _ c.decimal-k.ensures.len) (few)

@@ -12,7 +12,7 @@ pub put_kinds-faces-requires : goal.put_kinds-faces-requires
 unfolding any
 put_kinds-faces-requires c =
     let good : all_refusal c.args.n (length c.args.out.now) ≡ 0 =
-        sym c.all_refusal-number.ensures ∙ c.if-number-ne0.false in
+    sym c.all_refusal-number.ensures ∙ c.if-number-ne0.false in
     let r = all_room _ _ (good) in
     (omega arith, omega arith, kinds_fair _ refl refl)
 
@@ -20,7 +20,7 @@ pub put_kinds-requires : goal.put_kinds-requires
 unfolding up_from any
 put_kinds-requires c =
     let good : all_refusal c.args.n (length c.args.out.now) ≡ 0 =
-        sym c.all_refusal-number.ensures ∙ c.if-number-ne0.false in
+    sym c.all_refusal-number.ensures ∙ c.if-number-ne0.false in
     let k = c.put_kinds-faces in
     let r = all_room _ _ (good) in
     let e = faces_next k.ensures in
@@ -30,6 +30,6 @@ pub returns : goal.returns
 unfolding up_from
 returns c =
     let good : all_refusal c.args.n (length c.args.out.now) ≡ 0 =
-        sym c.all_refusal-number.ensures ∙ c.if-number-ne0.false in
+    sym c.all_refusal-number.ensures ∙ c.if-number-ne0.false in
     all_stored _ (good)
     c.put_kinds-faces.ensures c.put_kinds.ensures

@@ -3,7 +3,6 @@ use Prim.Native.Nat.{◌+◌, ◌≤◌}
 use mathlib.Core.Path.{refl, sym}
 use lib.ListN.{length}
 use Rattle.ground.proofs.PutLaws.{loop_none, loop_more, loop_all, loop_room, put_one, put_length, length_from, get_d_from}
-use Rattle.generic_cube.specs.Code.{code_of}
 use native.Mathlib.Omega.{arith}
 use Rattle.generic_cube.proofs.moves.put_widths.Goals as goal
 
@@ -13,7 +12,7 @@ loop-i-init c = loop_none
 pub offset_bounds-out-at : goal.offset_bounds-out-at
 offset_bounds-out-at c =
     let room : c.loop-i.at + 1 ≤ length c.loop-i.out =
-        let a = c.args in
+    let a = c.args in
     let l = length_from a.first a.count in
     loop_room 1 (λ w. refl) (omega arith) c.loop-i.invariant (omega arith) in
     omega (arith, room, put_length c.loop-i.invariant.put)
@@ -21,7 +20,7 @@ offset_bounds-out-at c =
 pub bounds-out-at : goal.bounds-out-at
 bounds-out-at c =
     let room : c.loop-i.at + 1 ≤ length c.loop-i.out =
-        let a = c.args in
+    let a = c.args in
     let l = length_from a.first a.count in
     loop_room 1 (λ w. refl) (omega arith) c.loop-i.invariant (omega arith) in
     omega (arith, room, put_length c.loop-i.invariant.put)
@@ -29,7 +28,7 @@ bounds-out-at c =
 pub overflow_add-at : goal.overflow_add-at
 overflow_add-at c =
     let room : c.loop-i.at + 1 ≤ length c.loop-i.out =
-        let a = c.args in
+    let a = c.args in
     let l = length_from a.first a.count in
     loop_room 1 (λ w. refl) (omega arith) c.loop-i.invariant (omega arith) in
     omega (arith, room, put_length c.loop-i.invariant.put)

@@ -9,14 +9,14 @@ pub returns-then-b-lt40 : goal.returns-then-b-lt40
 unfolding sign_bit
 returns-then-b-lt40 c =
     let byte : c.args.b < 256 =
-        search rules in
+    search rules in
     let b = c.args.b in rw (lt-ltb b 40 c.if-b-lt40.true) at (sign_by b (byte))
 
 pub returns-then-b-gt93 : goal.returns-then-b-gt93
 unfolding sign_bit
 returns-then-b-gt93 c =
     let byte : c.args.b < 256 =
-        search rules in
+    search rules in
     let b = c.args.b in
     rw (le-ltb b 40 c.if-b-lt40.false, lt-ltb 93 b c.if-b-gt93.true) at (sign_by b (byte))
 
@@ -24,6 +24,6 @@ pub returns : goal.returns
 unfolding sign_bit sign_bits
 returns c =
     let byte : c.args.b < 256 =
-        search rules in
+    search rules in
     let b = c.args.b in
     rw (le-ltb b 40 c.if-b-lt40.false, le-ltb 93 b c.if-b-gt93.false) at (sign_by b (byte))
