@@ -20,7 +20,7 @@ use Rattle.tokens.specs.Inner.{Lettered}
 use Rattle.tokens.specs.Words.{Run}
 use Rattle.tokens.proofs.TokenLaws.{digit_back, wide_letter, digits_parts, parts_digits, letter_parts, parts_letter, w_parts, end_left, Formed, formed_by, stands, letter_stands, DigitsEnd, digits_end, end_within, suffix_wide, suffix_plain, face_letter, out_digits, out_letter, out_w, out_left}
 use Rattle.scramble_parser.specs.Parse.{Reading, codes, bad, ahead, reading}
-use Rattle.theorems.specs.Notation.{Suffix, Width, no_digits, Shaped, NoDigit, NoneOf, ByteLeft, no_mark, one_mark, Faulty, zero_first, four_digits, no_letter_here, no_wHere, plain_left, wide_left, HasFault, FaultFound, Refusing, for_fault, for_width, Refuses, FirstBad, FirstRefused}
+use Rattle.theorems.specs.Notation.{Suffix, Width, no_digits, Shaped, NoDigit, NoneOf, ByteLeft, no_mark, one_mark, Faulty, zero_first, four_digits, no_letter_here, no_w_here, plain_left, wide_left, HasFault, FaultFound, Refusing, for_fault, for_width, Refuses, FirstBad, FirstRefused}
 use Rattle.theorems.proofs.GrammarLaws.{digit_is, letter_place_lem, letter_is, marked, half_is, counter_is, width_read, letter_back, is_a_digit, width_back, split_plain, split_wide, formed_shaped, shaped_reads, taken_width, width_refused}
 
 -- ---- bytes left after a suffix
@@ -135,7 +135,7 @@ fault_refused : (n k p : ℕ) (t : List ℕ) → Faulty k p t → read_token n t
 fault_refused n _ _ _ (zero_first rest) = zero_refused n rest
 fault_refused n _ _ _ (four_digits a b c d rest ha hb hc hd) = four_refused n a b c d rest ha hb hc hd
 fault_refused n _ _ _ (no_letter_here rest d h none) = letter_refused n d rest h none
-fault_refused n _ _ _ (no_wHere p rest h d some z) = w_refused n d p rest h some z
+fault_refused n _ _ _ (no_w_here p rest h d some z) = w_refused n d p rest h some z
 fault_refused n _ _ _ (plain_left p rest h z x) = plain_refused n p rest h z x
 fault_refused n _ _ _ (wide_left p rest h d x) = wide_refused n d p rest h x
 
@@ -244,7 +244,7 @@ module _ (t : List ℕ) (a : bad_digits t (digits_of t) ≡ false) where
         (ap (λ (x : ℕ). take k t ++ (x ∷ drop (suc k) t)) (letter_back (get_or t k 0) (omega arith)) ∙ ap (λ (x : List ℕ). take k t ++ x) (sym (drop-cons t k 0 i)) ∙ take-append-drop k t) (
           14,
           length (take k t) + 1,
-          no_wHere (letter_at t k) (drop (suc k) t) l front_width (omega (arith, front_long))
+          no_w_here (letter_at t k) (drop (suc k) t) l front_width (omega (arith, front_long))
               (λ e. wide_else t k l v (ap (λ (j : ℕ). get_or t j 0) (add-one k) ∙ sym (behind_front (suc k)) ∙ e)),
         ))
       where
@@ -287,7 +287,7 @@ no_5 : (k p : ℕ) (t : List ℕ) → Faulty k p t → k ≡ 5 → ⊥
 no_5 _ _ _ (zero_first rest) e = omega arith
 no_5 _ _ _ (four_digits a b c d rest ha hb hc hd) e = omega arith
 no_5 _ _ _ (no_letter_here rest d h none) e = omega arith
-no_5 _ _ _ (no_wHere p rest h d some z) e = omega arith
+no_5 _ _ _ (no_w_here p rest h d some z) e = omega arith
 no_5 _ _ _ (plain_left p rest h z x) e = omega arith
 no_5 _ _ _ (wide_left p rest h d x) e = omega arith
 

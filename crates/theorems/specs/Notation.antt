@@ -75,7 +75,7 @@ pub data Faulty : ℕ → ℕ → List ℕ → Type 0 where
       → Faulty 13 0 ((48 + a) ∷ (48 + b) ∷ (48 + c) ∷ (48 + d) ∷ rest)
   no_letter_here : {ds : List ℕ} {w : ℕ} (rest : List ℕ) → Width ds w → NoDigit rest → NoneOf (pick (eqb (length ds) 0) 9 6) rest
       → Faulty 12 (length ds) (ds ++ rest)
-  no_wHere : (p : ℕ) {ds : List ℕ} {w : ℕ} (rest : List ℕ) → p < 6 → Width ds w → 0 < length ds → (get_or rest 0 0 ≡ 119 → ⊥)
+  no_w_here : (p : ℕ) {ds : List ℕ} {w : ℕ} (rest : List ℕ) → p < 6 → Width ds w → 0 < length ds → (get_or rest 0 0 ≡ 119 → ⊥)
       → Faulty 14 (length ds + 1) (ds ++ (get_or kind_letters p 0 ∷ rest))
   plain_left : (p : ℕ) {i : ℕ} (rest : List ℕ) → p < 9 → (p < 6 → get_or rest 0 0 ≡ 119 → ⊥) → ByteLeft i rest
       → Faulty 14 (1 + i) (get_or kind_letters p 0 ∷ rest)
