@@ -1,4 +1,5 @@
-// Replays the records of standard input through the C functions, a record a line, and counts what differs: RECORDS.md says what stands in them.
+// Replays the records of standard input through the functions that the C exports call, a record a line, and counts what differs: RECORDS.md says
+// what stands in them.
 #![tactic(auto)]
 
 use std::io::{self, Read};
