@@ -1,16 +1,15 @@
 -- The answer for the whole text, from what its sequence was told to be.
-use Prim.Native.Nat.{ℕ, ◌+◌, ◌≤◌, ◌<◌, min}
-use mathlib.Core.Path.{◌≡◌, refl, sym, ap, subst, ◌∙◌}
+use Prim.Native.Nat.{ℕ, ◌+◌, ◌≤◌, ◌<◌}
+use mathlib.Core.Path.{◌≡◌, refl, ap, subst, ◌∙◌}
 use mathlib.Core.Bool.{true, false}
 use mathlib.Core.List.{List, [], ◌∷◌}
 use native.Mathlib.Omega.{arith}
 use lib.ListN.{length}
-use lib.Seq.{sets}
 use lib.Dec.{eqb}
 use borrow.Author.Tests.{eq-eqb, ne_eqb}
 use Rattle.generic_cube.specs.Sizes.{sized}
 use Rattle.scramble_parser.specs.declared.Parsed.TheVariants.{Moves, Refused, RefusedAt}
-use Rattle.scramble_parser.specs.Parse.{codes, bad}
+use Rattle.scramble_parser.specs.Parse.{codes}
 use Rattle.scramble_parser.proofs.ParseLaws.{read_bad, read_short, read_good}
 use Rattle.algorithm_parser.specs.Algorithm.{Alg, expand}
 use Rattle.algorithm_parser.specs.Groups.{Outcome, means, wrong, whole, expanded, sequence_at, read_algorithm, algorithm_reading, AlgorithmResult}

@@ -1,25 +1,24 @@
 -- The two readers that call each other: what the sequence's loop keeps, and each way through a group.
-use Prim.Native.Nat.{ℕ, zero, suc, ◌+◌, ◌-◌, ◌≤◌, ◌<◌}
+use Prim.Native.Nat.{ℕ, suc, ◌+◌, ◌-◌, ◌≤◌, ◌<◌}
 use mathlib.Core.Path.{◌≡◌, refl, sym, ap, subst, ◌∙◌}
 use mathlib.Core.Bool.{Bool, true, false, ◌||◌}
-use mathlib.Core.List.{List, [], ◌∷◌, ◌++◌}
+use mathlib.Core.List.{List}
 use native.Mathlib.Omega.{arith}
 use lib.ListN.{length, get_or, take, drop}
 use lib.Dec.{eqb}
 use borrow.Author.Tests.{eq-eqb, ne_eqb}
-use Rattle.ground.specs.Choice.{pick}
-use Rattle.tokens.specs.Words.{group_signs, is_sign, words_from}
+use Rattle.tokens.specs.Words.{group_signs, is_sign}
 use Rattle.tokens.specs.Token.{read_token}
 use Rattle.tokens.specs.Inner.{Found}
 use Rattle.tokens.specs.declared.Token.{Token}
 use Rattle.tokens.specs.declared.Token.TheVariants.{Is, Not}
 use Rattle.move_lists.proofs.ListLaws.{good_turned}
-use Rattle.algorithm_parser.specs.Algorithm.{Alg, nothing, move, both, expand}
-use Rattle.algorithm_parser.specs.Groups.{Outcome, means, wrong, and_then, front, Sort, opening, other, token, sort_of, token_then, word_then, round_end, square_end, paired, second_then, group_then, sequence_at, group_at}
-use Rattle.algorithm_parser.specs.Inner.{Filled, Placed, Behind, Told, token_alone, token_at, Laid, LaidBoth}
+use Rattle.algorithm_parser.specs.Algorithm.{Alg, nothing, expand}
+use Rattle.algorithm_parser.specs.Groups.{Outcome, means, wrong, and_then, front, opening, other, token, sort_of, token_then, word_then, round_end, square_end, paired, second_then, group_then, sequence_at, group_at}
+use Rattle.algorithm_parser.specs.Inner.{Filled, Placed, Behind, Told, token_alone, token_at, Laid}
 use Rattle.algorithm_parser.specs.declared.Part.{Part}
 use Rattle.algorithm_parser.specs.declared.Part.TheVariants.{Read, Bad}
-use Rattle.algorithm_parser.proofs.ReaderLaws.{word_of, word_ends, Sound, Fine, at_none, at_word, at_group, at_fine, group_at_fine}
+use Rattle.algorithm_parser.proofs.ReaderLaws.{word_of, word_ends, Sound, Fine, at_word, at_group, at_fine, group_at_fine}
 use Rattle.algorithm_parser.proofs.RoomLaws.{fill_none, fill_then, fill_placed}
 
 -- ---- what was told, taken apart

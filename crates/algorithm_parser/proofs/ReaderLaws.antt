@@ -1,15 +1,15 @@
 -- Laws of the grammar: where a part ends and what its codes are, that calls enough are enough, and the readers one word on.
 use Prim.Native.Nat.{ℕ, zero, suc, ◌+◌, ◌-◌, ◌*◌, ◌≤◌, ◌<◌}
 use mathlib.Core.Path.{◌≡◌, refl, sym, ap, subst, ◌∙◌}
-use mathlib.Core.Bool.{Bool, true, false, ◌||◌, true≢false}
-use mathlib.Core.List.{List, [], ◌∷◌, ◌++◌}
+use mathlib.Core.Bool.{Bool, true, false, ◌||◌}
+use mathlib.Core.List.{List, []}
 use native.Mathlib.Omega.{arith}
 use native.Mathlib.Numerals.{add-one}
 use lib.ListN.{length, get_or, take, drop, length-drop}
 use lib.Seq.{get_or-take, get_or-drop, length-take-le}
 use lib.Dec.{eqb}
 use borrow.Author.Tests.{eqb-true}
-use Rattle.ground.specs.Choice.{pick, between}
+use Rattle.ground.specs.Choice.{between}
 use Rattle.ground.proofs.ChoiceLaws.{bool_cases, between_bounds}
 use Rattle.generic_cube.proofs.CodeLaws.{AllGood}
 use Rattle.tokens.specs.Words.{group_signs, Run, words_from}
@@ -21,8 +21,8 @@ use Rattle.tokens.proofs.WordLaws.{first_word}
 use Rattle.tokens.proofs.TokenLaws.{token_good, stands}
 use Rattle.move_lists.proofs.ListLaws.{good_append, good_inverse}
 use Rattle.scramble_parser.proofs.ParseLaws.{good_wider}
-use Rattle.algorithm_parser.specs.Algorithm.{Alg, nothing, move, both, repeated, commutator, conjugate, copies, expand}
-use Rattle.algorithm_parser.specs.Groups.{Outcome, means, wrong, and_then, front, Sort, opening, other, token, sort_of, token_then, word_then, first_then, round_end, square_end, paired, second_then, group_then, sequence_of, group_of, sequence_calls, group_calls, sequence_at, group_at}
+use Rattle.algorithm_parser.specs.Algorithm.{Alg, nothing, move, both, repeated, copies, expand}
+use Rattle.algorithm_parser.specs.Groups.{Outcome, means, wrong, and_then, front, Sort, opening, other, token, sort_of, token_then, word_then, round_end, square_end, paired, second_then, group_then, sequence_of, group_of, sequence_calls, group_calls, sequence_at, group_at}
 
 -- the word from s to e
 abbrev pub word_of : List ℕ → ℕ → ℕ → Run

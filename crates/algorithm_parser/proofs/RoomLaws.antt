@@ -3,11 +3,9 @@ use Prim.Native.Nat.{ℕ, zero, suc, ◌+◌, ◌-◌, ◌≤◌, ◌<◌, min}
 use mathlib.Core.Path.{◌≡◌, refl, sym, ap, subst, ◌∙◌}
 use mathlib.Core.List.{List, [], ◌∷◌, ◌++◌, append_assoc, append-nil}
 use native.Mathlib.Omega.{arith}
-use native.Mathlib.Numerals.{add-one}
 use lib.ListN.{length, get_or, take, drop, set, length-append, length-drop, length-set}
-use lib.Seq.{sets, length-sets, sets-eq, length-take-le, take-take, take_at, drop_at, take_all, take-set-le, get_or-take, get_or-drop}
-use Rattle.ground.specs.Inner.{Put}
-use Rattle.ground.proofs.PutLaws.{Looped, loop_none, loop_more, loop_all, put_one, put_length, each_self, sets-append, sets-front}
+use lib.Seq.{sets, sets-eq, length-take-le, take-take, take_at, drop_at, take-set-le, get_or-take, get_or-drop}
+use Rattle.ground.proofs.PutLaws.{Looped, loop_none, loop_more, loop_all, put_one, each_self, sets-append}
 use Rattle.ground.proofs.CopyLaws.{part_front}
 use Rattle.generic_cube.specs.Code.{move_of}
 use Rattle.move_lists.specs.Lists.{Turned, inverse_of, inverse}

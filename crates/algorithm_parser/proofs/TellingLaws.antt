@@ -1,21 +1,19 @@
 -- What a reader tells of an outcome: of a token, of the ends of groups, of a sequence as far as it is read, and of the whole text.
-use Prim.Native.Nat.{ℕ, zero, suc, ◌+◌, ◌-◌, ◌≤◌, ◌<◌, min}
+use Prim.Native.Nat.{ℕ, suc, ◌+◌, ◌-◌, ◌<◌}
 use mathlib.Core.Path.{◌≡◌, refl, sym, ap, subst, ◌∙◌}
-use mathlib.Core.Bool.{Bool, true, false}
+use mathlib.Core.Bool.{true, false}
 use mathlib.Core.List.{List, [], ◌∷◌, ◌++◌, append_assoc, append-nil}
 use native.Mathlib.Omega.{arith}
-use lib.ListN.{length, get_or, take, drop}
-use lib.Dec.{eqb, ltb}
+use lib.ListN.{length, get_or}
 use borrow.Author.Tests.{eq-eqb, ne_eqb}
 use Rattle.ground.specs.Choice.{pick, between}
 use Rattle.ground.proofs.ChoiceLaws.{bool_cases, between_bounds}
 use Rattle.tokens.specs.declared.Token.{Token}
 use Rattle.tokens.specs.declared.Token.TheVariants.{Is, Not}
 use Rattle.move_lists.specs.Lists.{inverse}
-use Rattle.algorithm_parser.specs.Algorithm.{Alg, nothing, move, both, repeated, commutator, conjugate, copies, expand}
-use Rattle.algorithm_parser.specs.Groups.{Outcome, means, wrong, and_then, front, round_end, square_end, paired}
+use Rattle.algorithm_parser.specs.Algorithm.{Alg, repeated, copies, expand}
+use Rattle.algorithm_parser.specs.Groups.{round_end, square_end, paired}
 use Rattle.algorithm_parser.specs.Inner.{Filled, Placed, Behind, Standing, Appended, Told, token_alone, Laid, LaidBoth}
-use Rattle.algorithm_parser.specs.declared.Part.{Part}
 use Rattle.algorithm_parser.specs.declared.Part.TheVariants.{Read, Bad}
 use Rattle.algorithm_parser.proofs.RoomLaws.{fill_then, stands_filled, stands_before}
 

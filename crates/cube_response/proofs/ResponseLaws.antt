@@ -121,9 +121,9 @@ module _ (n : ℕ) (two old new : List ℕ) (s : sized n ≡ true) (h : length t
   unfolding read_out
   filled_is p = p.written ∙ rw s
 
-  moves_of : (r : Reading) (count : ℕ) → reading n (tokens_of two) ≡ r → Moves count ≡ answer_of (length old) r → new ≡ filled_by old r → Read n two new count
-  moves_of (bad k at) count q e f = let z : ◌≡◌ {A = ℕ} 0 1 = cc in absurd (omega arith)
-  moves_of (codes cs) count q e f =
+  moves_of_lem : (r : Reading) (count : ℕ) → reading n (tokens_of two) ≡ r → Moves count ≡ answer_of (length old) r → new ≡ filled_by old r → Read n two new count
+  moves_of_lem (bad k at) count q e f = let z : ◌≡◌ {A = ℕ} 0 1 = cc in absurd (omega arith)
+  moves_of_lem (codes cs) count q e f =
       let l = reading_few n two cs q in
       let v : ltb (length old) (length cs) ≡ false = le-ltb (length old) (length cs) (omega arith) in
       let d : Moves count ≡ Moves (length cs) = rw v at e in
@@ -150,7 +150,7 @@ module _ (n : ℕ) (two old new : List ℕ) (s : sized n ≡ true) (h : length t
       omega arith
 
   pub parsed_moves : {r : Parsed} {count : ℕ} → r ≡ Moves count → ParseResult n two old new r → Read n two new count
-  parsed_moves {r} {count} q p = moves_of (reading n (tokens_of two)) count refl (sym q ∙ parsed_is p) (filled_is p)
+  parsed_moves {r} {count} q p = moves_of_lem (reading n (tokens_of two)) count refl (sym q ∙ parsed_is p) (filled_is p)
 
   pub parsed_bad : {r : Parsed} {k at : ℕ} → r ≡ RefusedAt k at → ParseResult n two old new r → reading n (tokens_of two) ≡ bad k at
   parsed_bad {r} {k} {at} q p = bad_reading (reading n (tokens_of two)) k at (sym q ∙ parsed_is p)

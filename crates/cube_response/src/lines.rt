@@ -37,6 +37,7 @@ pub fn rest(input: &[u8]) -> &[u8]
 }
 
 // The size that a line writes, 0 for any other line.
+#[tactic(auto, using(crate::proofs::ProgramLaws::size_past))]
 pub fn read_size(one: &[u8]) -> usize
     ensures { result ≡ size_of one.now }
 {

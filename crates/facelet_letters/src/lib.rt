@@ -12,6 +12,7 @@ use generic_cube::{Code, Done, Move};
 use ground::codes::MoveCode;
 
 // Of the values one, two and three lanes back, the one that t quarters bring.
+#[tactic(auto, unfolding(facelet_lanes::specs::InnerLanes::prior))]
 fn prior(t: usize, one: u8, two: u8, three: u8) -> u8
     ensures { result ≡ prior t one two three }
 {

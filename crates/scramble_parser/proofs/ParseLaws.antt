@@ -8,7 +8,6 @@ use native.Mathlib.Numerals.{add-one}
 use native.Mathlib.Nat.{zero-add}
 use lib.ListN.{length, take, drop, set, length-set, length-drop}
 use lib.Seq.{sets, sets-eq, length-take-le}
-use lib.Dec.{ltb}
 use borrow.Author.Tests.{le-ltb, lt-ltb}
 use Rattle.ground.proofs.ChoiceLaws.{bool_cases}
 use Rattle.generic_cube.specs.Sizes.{sized}

@@ -52,6 +52,7 @@ fn put_mark(out: &mut [u8], at: usize, turn: usize) -> usize
 }
 
 // A width in decimal, nothing for 2.
+#[tactic(auto, unfolding(crate::specs::Write::width_text))]
 fn put_width(out: &mut [u8], at: usize, w: usize) -> usize
     requires { (at + length (width_text w) ≤ length out.old) × (w < 1024) }
     ensures { Put out.old at (width_text w) out.new result }

@@ -31,8 +31,8 @@ use Rattle.table_level.specs.declared.Growth.TheVariants.{To, Over}
 use Rattle.table_level.specs.Inner.{entry_of, Stayed, Widened, Outgrown, Tracking, MovesTurn, Passing, Refiled, Going, Stretched, Entered, LeadsTo, Fanned, start_at, Due, SourcesThere, SourceVisited, Swept, Sourced, Source, Covered, Levelled, outgrown_stage}
 
 -- what holds of the places from `from` up to i, and of i, holds up to i + 1
-pub up_to : (P : ℕ → Type 0) (from i : ℕ) → ((j : ℕ) → from ≤ j → j < i → P j) → P i → (j : ℕ) → from ≤ j → j < i + 1 → P j
-up_to P from i f p j g h =
+pub up_to_lem : (P : ℕ → Type 0) (from i : ℕ) → ((j : ℕ) → from ≤ j → j < i → P j) → P i → (j : ℕ) → from ≤ j → j < i + 1 → P j
+up_to_lem P from i f p j g h =
     let le : j ≤ i = omega arith in
     ⊎_elim (λ (e : j ≡ i). subst P (sym e) p) (λ (lt : j < i). f j g lt) (eq-or-lt_of_le le)
 
@@ -277,7 +277,7 @@ module _ {n e : ℕ} {moves t₀ : List ℕ} (cube : List ℕ) {count₀ : ℕ} 
       record {
         widened = widen_two g.widened h.widened;
         tracking = h.tracking;
-        done = up_to (λ j. Entered (stickers n) k (moved_by n (get_or moves j 0) cube) t' count') 0 i
+        done = up_to_lem (λ j. Entered (stickers n) k (moved_by n (get_or moves j 0) cube) t' count') 0 i
             (λ j a b w. present_on h.widened (moved_by n (get_or moves j 0) cube) (g.done j a b w)) h.done;
       }
 
@@ -387,7 +387,7 @@ module _ {n e from append_last : ℕ} {starts moves t₀ : List ℕ} {count₀ :
       record {
         widened = widen_two g.widened w;
         tracking = h.tracking;
-        done = up_to (λ j. SourceVisited n starts moves k e j t' count') from at
+        done = up_to_lem (λ j. SourceVisited n starts moves k e j t' count') from at
             (λ j a b s d i. present_on w s (g.done j a b s (due_back w (placed_on g.widened.stayed.more p) (omega arith) d) i)) h.done;
       }
 

@@ -9,7 +9,7 @@ use lib.ListN.{length}
 use borrow.Author.Tests.{eqb-true, eqb-false}
 use Rattle.ground.proofs.ChoiceLaws.{bool_cases}
 use Rattle.generic_cube.specs.Sizes.{stickers}
-use Rattle.generic_cube.specs.Code.{move_of, with_turn, back, joins, list_refusal}
+use Rattle.generic_cube.specs.Code.{move_of, with_turn, back, joins}
 use Rattle.generic_cube.proofs.CodeLaws.{kind_most, turn_most, move_code, move-turned, joins-move}
 use Rattle.move_lists.specs.Lists.{turn_sum, joined, join, Turned, Step, here, there, Steps, done, then, inverse_of, inverse}
 use Rattle.move_lists.proofs.SimplifyLaws.{join_vanish, join_stay}

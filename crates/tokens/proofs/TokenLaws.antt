@@ -372,6 +372,10 @@ module _ (t : List ℕ) where
     unfolding no_letter
     face_none h = rw (ne_eqb k 0 (omega arith)) (le-leb 6 (letter_at t k) (omega (arith, e)))
 
+-- behind digits a byte that is no face's letter is 12 where it stands
+pub out_no_letter : (n : ℕ) (t : List ℕ) (k : ℕ) → bad_digits t k ≡ false → 0 < k → 6 ≤ letter_at t k → read_behind n t k ≡ Not 12 k
+out_no_letter n t k e some h = sym (out_letter n t k e (face_none t some refl h))
+
 -- with a `w` the suffix stands at k + 2, without at k + 1
 module _ (t : List ℕ) (k : ℕ) where
   pub suffix_wide : is_wide_token t k ≡ true → suffix_at t k ≡ k + 2

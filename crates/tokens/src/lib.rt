@@ -179,6 +179,7 @@ fn has_bad_digits(t: &[u8], k: usize) -> bool
 }
 
 // Whether the letter behind k digits is a face's and `w` stands after it.
+#[tactic(auto, unfolding(crate::specs::Token::is_wide_token))]
 fn is_wide_token(t: &[u8], k: usize, place: usize) -> bool
     requires { (k ≤ 4) × (place ≡ letter_at t.now k) }
     ensures { result ≡ is_wide_token t.now k }
@@ -255,6 +256,7 @@ fn read_bare(n: usize, t: &[u8]) -> Token
 }
 
 // A token with k digits: a face's letter, `w` and a suffix.
+#[tactic(auto, using(crate::proofs::TokenLaws::out_no_letter))]
 fn read_numbered(n: usize, t: &[u8], k: usize) -> Token
     requires { (sized n ≡ true) × (0 < k) × (k ≤ 4) }
     ensures { result ≡ read_behind n t.now k }

@@ -1,13 +1,10 @@
 -- `dfs`: the answer is that of the candidates from i on; each call has one move less.
 use Prim.Native.Nat.{◌<◌}
 use mathlib.Core.Path.{refl, sym, ◌∙◌}
-use mathlib.Core.Logic.{⊎_elim}
 use native.Mathlib.Omega.{arith}
-use borrow.Author.Tests.{not-true, not-false}
 use Rattle.generic_cube.proofs.CodeLaws.{list_code, list_fair}
 use Rattle.geometric_moves.proofs.MovedLaws.{length_moved}
 use Rattle.ida_star.proofs.VisitLaws.{visit_goal, visit_above, try_start, try_skip, try_end, level_two, try_next, try_found}
-use Rattle.ida_star.proofs.Tags.{tag_not_found}
 use Rattle.ida_star.proofs.+dfs.Goals as goal
 use Rattle.ida_star.proofs.+dfs.Goals.{then-not-path_bars+in_default, else-not-path_bars}
 
@@ -18,17 +15,17 @@ returns-then-number-eq0 t c =
 pub returns-then-left-number : goal.returns-then-left-number
 returns-then-left-number t c =
     let e = c.number-number.ensures in
-    visit_above (λ d. c.if-number-eq0.false (e ∙ d)) (omega (arith, e, c.if-left-number.true))
+    visit_above (λ d. omega (arith, e, d)) (omega (arith, e, c.if-left-number.true))
 
 pub loop-i-init : goal.loop-i-init
 loop-i-init t c =
     let e = c.number-number.ensures in
-    try_start (λ d. c.if-number-eq0.false (e ∙ d)) (omega (arith, e, c.if-left-number.false))
+    try_start (λ d. omega (arith, e, d)) (omega (arith, e, c.if-left-number.false))
 
 pub turn_level-requires : goal.turn_level-requires
 turn_level-requires t c =
     let some_left : 0 < c.args.left =
-    omega (arith, c.if-number-eq0.false, c.if-left-number.false) in
+    omega arith in
     let r = c.requires in
     let l = c.loop-i in
     record {
@@ -42,7 +39,7 @@ turn_level-requires t c =
 pub returns-in-Found : goal.returns-in-Found
 returns-in-Found t c =
     let some_left : 0 < c.args.left =
-    omega (arith, c.if-number-eq0.false, c.if-left-number.false) in
+    omega arith in
     try_found (λ x y. length_moved _ _ _) (some_left) c.requires.room c.requires.slots c.loop-i.invariant c.loop-i-test.true c.turn_level.ensures refl
     (sym c.path_bars.ensures ∙ c.if-not-path_bars.true) c.dfs-r.ensures c.dfs-r.auto.path c.dfs-r.auto.work
     refl refl c.in-Found.is
@@ -50,7 +47,7 @@ returns-in-Found t c =
 pub loop-i-preserved : goal.loop-i-preserved
 loop-i-preserved t c =
     let some_left : 0 < c.args.left =
-    omega (arith, c.if-number-eq0.false, c.if-left-number.false) in
+    omega arith in
     let l = c.loop-i.invariant in
     let b = c.path_bars.ensures in
     elim c.if-not-path_bars.branch [

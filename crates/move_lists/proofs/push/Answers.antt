@@ -7,14 +7,14 @@ use Rattle.move_lists.proofs.SimplifyLaws.{pushed_other, pushed_gone, pushed_joi
 use Rattle.move_lists.proofs.push.Goals as goal
 
 pub returns-then-not-do_join : goal.returns-then-not-do_join
-returns-then-not-do_join c = pushed_other c.requires c.if-k-eq0.false (sym c.do_join.ensures ∙ c.if-not-do_join.true)
+returns-then-not-do_join c = pushed_other c.requires (λ z. omega arith) (sym c.do_join.ensures ∙ c.if-not-do_join.true)
 
 pub overflow_add-turn : goal.overflow_add-turn
 overflow_add-turn c = let a = c.args in omega (arith, turn_most (get_or a.out.now (a.k - 1) 0), turn_most a.code, c.turn_of.ensures, c.turn_of-2.ensures)
 
 pub returns-then-turn-eq0 : goal.returns-then-turn-eq0
-returns-then-turn-eq0 c = pushed_gone c.requires c.if-k-eq0.false (sym c.do_join.ensures ∙ c.if-not-do_join.false) (rw (c.turn_of.ensures, c.turn_of-2.ensures) at c.if-turn-eq0.true)
+returns-then-turn-eq0 c = pushed_gone c.requires (λ z. omega arith) (sym c.do_join.ensures ∙ c.if-not-do_join.false) (rw (c.turn_of.ensures, c.turn_of-2.ensures) at c.if-turn-eq0.true)
 
 pub returns : goal.returns
-returns c = pushed_joined c.requires c.if-k-eq0.false (sym c.do_join.ensures ∙ c.if-not-do_join.false) (rw (c.turn_of.ensures, c.turn_of-2.ensures) at c.if-turn-eq0.false)
+returns c = pushed_joined c.requires (λ z. omega arith) (sym c.do_join.ensures ∙ c.if-not-do_join.false) (rw (c.turn_of.ensures, c.turn_of-2.ensures) at c.if-turn-eq0.false)
     (c.with_turn.ensures ∙ rw (c.turn_of.ensures, c.turn_of-2.ensures))

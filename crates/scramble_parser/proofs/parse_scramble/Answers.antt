@@ -1,5 +1,4 @@
 -- `parse_scramble`: the first pass knows all before the second writes.
-use native.Mathlib.Omega.{arith}
 use mathlib.Core.Path.{◌≡◌, sym, ◌∙◌}
 use mathlib.Core.Bool.{true}
 use Rattle.generic_cube.specs.Sizes.{sized}

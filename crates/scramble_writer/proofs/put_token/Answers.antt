@@ -1,13 +1,11 @@
 use native.Mathlib.Omega.{arith}
-use Rattle.ground.specs.Inner.{Put}
 use Rattle.ground.proofs.PutLaws.{put_room}
 use Prim.Native.Nat.{◌+◌, ◌≤◌}
 use mathlib.Core.Path.{◌≡◌, ◌∙◌}
 use mathlib.Core.Bool.{true, false}
-use mathlib.Core.List.{[], ◌∷◌}
 use lib.ListN.{length}
 use Rattle.generic_cube.specs.Code.{is_wide}
-use Rattle.scramble_writer.specs.Write.{kind_byte, mark_text, width_text}
+use Rattle.scramble_writer.specs.Write.{mark_text, width_text}
 use mathlib.Core.Path.{sym}
 use Rattle.scramble_writer.proofs.WriteLaws.{wide_length, plain_length, put_wide, put_plain}
 use Rattle.scramble_writer.proofs.put_token.Goals as goal

@@ -1,25 +1,22 @@
 use native.Mathlib.Omega.{arith}
-use Rattle.ground.proofs.PutLaws.{put_none, put_then, put_room}
+use Rattle.ground.proofs.PutLaws.{put_then, put_room}
 use Prim.Native.Nat.{◌+◌, ◌/◌, ◌%◌}
 use mathlib.Core.Path.{◌≡◌}
 use mathlib.Core.List.{[], ◌∷◌}
 use Rattle.scramble_writer.specs.Write.{width_text}
-use Rattle.scramble_writer.proofs.WriteLaws.{width_none, width_one, width_two, width_three}
+use Rattle.scramble_writer.proofs.WriteLaws.{width_one, width_two, width_three}
 use Rattle.scramble_writer.proofs.put_width.Goals as goal
-
-pub returns-then-w-eq2 : goal.returns-then-w-eq2
-returns-then-w-eq2 c = rw (width_none c.if-w-eq2.true) put_none
 
 pub put_digit-requires : goal.put_digit-requires
 put_digit-requires c =
     let one : width_text c.args.w ≡ (48 + c.args.w) ∷ [] =
-    width_one c.if-w-eq2.false c.if-w-lt10.true in
+    width_one (λ z. omega arith) c.if-w-lt10.true in
     (rw (one) at c.requires.0, omega arith)
 
 pub returns-then-w-lt10 : goal.returns-then-w-lt10
 returns-then-w-lt10 c =
     let one : width_text c.args.w ≡ (48 + c.args.w) ∷ [] =
-    width_one c.if-w-eq2.false c.if-w-lt10.true in
+    width_one (λ z. omega arith) c.if-w-lt10.true in
     rw (one) c.put_digit.ensures
 
 pub put_digit-ones-requires : goal.put_digit-ones-requires

@@ -1,14 +1,11 @@
 use mathlib.Core.Path.{sym, ◌∙◌}
 use native.Mathlib.Omega.{arith}
 use Rattle.tokens.specs.Inner.{Lettered}
-use Rattle.tokens.proofs.TokenLaws.{out_digits, out_letter, out_w, face_letter, face_none}
+use Rattle.tokens.proofs.TokenLaws.{out_digits, out_w, face_letter}
 use Rattle.tokens.proofs.read_numbered.Goals as goal
 
 pub returns-then-has_bad_digits : goal.returns-then-has_bad_digits
 returns-then-has_bad_digits c = out_digits _ _ _ (sym c.has_bad_digits.ensures ∙ c.if-has_bad_digits.true)
-
-pub returns-then-place-ge6 : goal.returns-then-place-ge6
-returns-then-place-ge6 c = out_letter _ _ _ (sym c.has_bad_digits.ensures ∙ c.if-has_bad_digits.false) (face_none _ c.requires.1 c.letter_at-place.ensures.0 c.if-place-ge6.true)
 
 pub wide-requires : goal.wide-requires
 wide-requires c =
@@ -16,7 +13,7 @@ wide-requires c =
     record {
       digits = sym c.has_bad_digits.ensures ∙ c.if-has_bad_digits.false;
       letter = c.letter_at-place.ensures.0;
-      some = face_letter _ c.requires.1 c.letter_at-place.ensures.0 c.if-place-ge6.false;
+      some = face_letter _ c.requires.1 c.letter_at-place.ensures.0 (omega arith);
     } in
     (c.requires.0, lettered, sym c.is_wide_token.ensures ∙ c.if-is_wide_token.true)
 
@@ -26,6 +23,6 @@ returns c =
     record {
       digits = sym c.has_bad_digits.ensures ∙ c.if-has_bad_digits.false;
       letter = c.letter_at-place.ensures.0;
-      some = face_letter _ c.requires.1 c.letter_at-place.ensures.0 c.if-place-ge6.false;
+      some = face_letter _ c.requires.1 c.letter_at-place.ensures.0 (omega arith);
     } in
     out_w _ _ _ (lettered) (sym c.is_wide_token.ensures ∙ c.if-is_wide_token.false) (λ z. omega (arith, c.requires.1))

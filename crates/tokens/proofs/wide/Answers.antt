@@ -28,7 +28,7 @@ pub returns-then-unfit : goal.returns-then-unfit
 returns-then-unfit c =
     let wide : is_wide_token c.args.t.now c.args.k ≡ false → c.args.k ≡ 0 =
     λ w. absurd (true≢false (sym c.requires.2 ∙ w)) in
-    out_width _ _ _ c.requires.1 (wide) (suffix_wide _ _ c.requires.2) c.suffix-mark.ensures.0 c.if-t-wide_end.false c.requires.2 c.width-width.ensures (sym c.is_outside-unfit.ensures ∙ c.if-unfit.true)
+    out_width _ _ _ c.requires.1 (wide) (suffix_wide _ _ c.requires.2) c.suffix-mark.ensures.0 (omega arith) c.requires.2 c.width-width.ensures (sym c.is_outside-unfit.ensures ∙ c.if-unfit.true)
 
 pub overflow_add-kind : goal.overflow_add-kind
 overflow_add-kind c = omega (arith, (lettered_few _ _ c.requires.1).1)
@@ -40,4 +40,4 @@ pub returns : goal.returns
 returns c =
     let wide : is_wide_token c.args.t.now c.args.k ≡ false → c.args.k ≡ 0 =
     λ w. absurd (true≢false (sym c.requires.2 ∙ w)) in
-    out_wide _ _ _ c.requires.1 (wide) (suffix_wide _ _ c.requires.2) c.suffix-mark.ensures.0 c.if-t-wide_end.false c.requires.2 c.width-width.ensures (sym c.is_outside-unfit.ensures ∙ c.if-unfit.false) c.code_of.ensures
+    out_wide _ _ _ c.requires.1 (wide) (suffix_wide _ _ c.requires.2) c.suffix-mark.ensures.0 (omega arith) c.requires.2 c.width-width.ensures (sym c.is_outside-unfit.ensures ∙ c.if-unfit.false) c.code_of.ensures

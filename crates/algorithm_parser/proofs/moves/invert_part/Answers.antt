@@ -1,7 +1,6 @@
 use native.Mathlib.Omega.{arith}
 use lib.ListN.{take, drop, length-drop}
 use lib.Seq.{length-take-le}
-use Rattle.move_lists.specs.Lists.{inverse}
 use Rattle.move_lists.proofs.ListLaws.{length-inverse}
 use Rattle.algorithm_parser.proofs.RoomLaws.{move_none, invert_more, move_all}
 use Rattle.algorithm_parser.proofs.moves.invert_part.Goals as goal

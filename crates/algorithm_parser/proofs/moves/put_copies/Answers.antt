@@ -1,5 +1,3 @@
-use Prim.Native.Nat.{◌-◌}
-use Rattle.algorithm_parser.specs.Algorithm.{copies}
 use Rattle.algorithm_parser.proofs.RoomLaws.{repeat_none, repeat_more}
 use Rattle.algorithm_parser.proofs.moves.put_copies.Goals as goal
 

@@ -3,7 +3,7 @@ use mathlib.Core.Path.{◌≡◌, sym, ◌∙◌}
 use mathlib.Core.Bool.{false}
 use Rattle.generic_cube.specs.Code.{outside}
 use Rattle.generic_cube.proofs.CodeLaws.{inside}
-use Rattle.cube_response.proofs.ProgramLaws.{size_other, size_long, size_zero, size_large, size_is}
+use Rattle.cube_response.proofs.ProgramLaws.{size_other, size_long, size_zero, size_is}
 use native.Mathlib.Omega.{arith}
 use Rattle.cube_response.proofs.lines.read_size.Goals as goal
 
@@ -25,16 +25,9 @@ returns-then-one-eq48 c =
     sym c.is_outside.ensures ∙ c.if-is_outside.false in
     size_zero _ c.digits-k.ensures.0 c.if-k-one.false (few) c.if-one-eq48.true
 
-pub returns-then-n-gt20 : goal.returns-then-n-gt20
-returns-then-n-gt20 c =
-    let few : outside 1 2 c.digits-k.result ≡ false =
-    sym c.is_outside.ensures ∙ c.if-is_outside.false in
-    size_large _ c.digits-k.ensures.0 c.if-k-one.false (few) c.if-one-eq48.false
-    c.number-n.ensures c.if-n-gt20.true
-
 pub returns : goal.returns
 returns c =
     let few : outside 1 2 c.digits-k.result ≡ false =
     sym c.is_outside.ensures ∙ c.if-is_outside.false in
     size_is _ c.digits-k.ensures.0 c.if-k-one.false (few) c.if-one-eq48.false
-    c.number-n.ensures c.if-n-gt20.false
+    c.number-n.ensures (omega arith)

@@ -15,13 +15,13 @@ returns-then-two-gt4096 c = responds (long_two _ _ c.if-one-gt4096.false c.if-tw
 pub returns-then-n-eq0 : goal.returns-then-n-eq0
 unfolding decimal decimal_in
 returns-then-n-eq0 c =
-    responds (no_size _ _ c.if-one-gt4096.false c.if-two-gt4096.false (sym c.read_size-n.ensures ∙ c.if-n-eq0.true))
+    responds (no_size _ _ (omega arith) (omega arith) (sym c.read_size-n.ensures ∙ c.if-n-eq0.true))
     (put_front c.put-then-n-eq0.ensures (omega (arith, c.requires)))
 
 pub respond_to_scramble-requires : goal.respond_to_scramble-requires
 respond_to_scramble-requires c =
-    (record { some = omega (arith, c.if-n-eq0.false); most = size_most _ c.read_size-n.ensures c.if-n-eq0.false; long = c.requires }, c.if-two-gt4096.false)
+    (record { some = omega (arith, c.if-n-eq0.false); most = size_most _ c.read_size-n.ensures c.if-n-eq0.false; long = c.requires }, omega arith)
 
 pub returns : goal.returns
 returns c =
-    responds (a_size _ _ c.if-one-gt4096.false c.if-two-gt4096.false _ c.read_size-n.ensures c.if-n-eq0.false) c.respond_to_scramble.ensures
+    responds (a_size _ _ (omega arith) (omega arith) _ c.read_size-n.ensures c.if-n-eq0.false) c.respond_to_scramble.ensures
