@@ -15,7 +15,7 @@ fn found() -> PathBuf {
     let top = here.join("../..");
     let made = top.join("target/staticlib");
     if !made.join("libcubesim.a").exists() {
-        let run = Command::new("rt").args(["staticlib", "cubesim"]).current_dir(&top).status();
+        let run = Command::new(top.join("tools/staticlib")).status();
         let help = "libcubesim.a is missing: name its folder by CUBESIM_LIB, or make it by `tools/staticlib`";
         assert!(matches!(run, Ok(s) if s.success()), "{help}");
     }
