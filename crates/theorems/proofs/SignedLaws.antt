@@ -370,9 +370,9 @@ places_kept n m j h =
 pub stickers_go : StickersGo
 stickers_go = moved-target
 
-pub each-index_fixed : EachIndexFixed
+pub each_index_fixed : EachIndexFixed
 unfolding target source
-each-index_fixed n m i h t k = (
+each_index_fixed n m i h t k = (
   source n m i,
   target_below n (back m) i h,
   target-add n m (4 - m.turn) m.turn 0 i h (ap (λ (x : ℕ). x % 4) {x = 4 - m.turn + m.turn} {y = 4} (omega arith)) ∙ target_none n m i h k,
