@@ -1,10 +1,8 @@
 use Rattle.ground.proofs.ChoiceLaws.{over-between, bounds_between}
 use Rattle.algorithm_parser.proofs.repeat.Goals as goal
 
--- src/lib.rt:55:9
 pub returns-then-b-gt57 : goal.returns-then-b-gt57
 returns-then-b-gt57 c = let b = c.args.b in simp (over-between 49 57 b c.if-b-lt49.false c.if-b-gt57.true)
 
--- src/lib.rt:48:1
 pub returns : goal.returns
 returns c = let b = c.args.b in simp (bounds_between 49 57 b c.if-b-lt49.false c.if-b-gt57.false)

@@ -5,14 +5,11 @@ use mathlib.Core.Path.{sym, ◌∙◌}
 use Rattle.algorithm_parser.proofs.TellingLaws.{round_bad, round_once, round_more}
 use Rattle.algorithm_parser.proofs.round.Goals as goal
 
--- src/lib.rt:83:9
 pub returns-then-at-ne41 : goal.returns-then-at-ne41
 returns-then-at-ne41 c = λ start a l. round_bad _ _ l (λ w. c.if-at-ne41.true (c.at.ensures ∙ w))
 
--- src/lib.rt:88:9
 pub returns-then-times-eq0 : goal.returns-then-times-eq0
 returns-then-times-eq0 c = λ start a l. round_once _ _ l (sym c.at.ensures ∙ c.if-at-ne41.false) (c.repeat-times.ensures ∙ ap (λ b. pick (between 49 57 b) (b - 48) 0) c.at-2.ensures) c.if-times-eq0.true
 
--- src/lib.rt:78:1
 pub returns : goal.returns
 returns c = λ start a l. round_more _ _ l (sym c.at.ensures ∙ c.if-at-ne41.false) (c.repeat-times.ensures ∙ ap (λ b. pick (between 49 57 b) (b - 48) 0) c.at-2.ensures) c.requires.0 c.if-times-eq0.false c.put_copies-last.ensures

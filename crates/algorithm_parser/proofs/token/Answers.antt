@@ -7,11 +7,9 @@ use Rattle.tokens.proofs.TokenLaws.{place_within}
 use Rattle.algorithm_parser.proofs.TellingLaws.{token_put}
 use Rattle.algorithm_parser.proofs.token.Goals as goal
 
--- src/lib.rt:68:13
 pub returns-in-Is : goal.returns-in-Is
 returns-in-Is c = let a = c.args in token_put a.cap a.out.now a.j a.s a.e (sym c.in-Is.is ∙ c.read_token.ensures) c.put-next.ensures
 
--- src/lib.rt:71:22
 pub overflow_add-at : goal.overflow_add-at
 overflow_add-at c = let a = c.args in
     let p = place_within a.n _ (sym c.in-Not.is ∙ c.read_token.ensures) in

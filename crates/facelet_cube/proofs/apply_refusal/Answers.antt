@@ -10,22 +10,24 @@ use Rattle.facelet_cube.specs.Apply.{apply_refusal}
 use Rattle.facelet_cube.proofs.ApplyLaws.{apply_list}
 use native.Mathlib.Omega.{arith}
 use Rattle.facelet_cube.proofs.apply_refusal.Goals as goal
+use Rattle.facelet_cube.proofs.apply_refusal.Goals.{Then-is_size}
+
+-- the size is in range
+sized-is : (c : Then-is_size) → sized c.args.n ≡ true
+sized-is c =
+    sym c.is_size.ensures ∙ c.if-is_size.true
+
+size : (c : Then-is_size) → Sized c.args.n
+size c =
+    size_in_range (sized-is c)
 
 pub overflow_mul-count : goal.overflow_mul-count
 overflow_mul-count c =
-    let sized-is : sized c.args.n ≡ true =
-    sym c.is_size.ensures ∙ c.if-is_size.true in
-    let size : Sized c.args.n =
-    size_in_range (sized-is) in
-    omega (arith, size)
+    omega (arith, (size c))
 
 pub overflow_mul-count-then-is_size : goal.overflow_mul-count-then-is_size
 overflow_mul-count-then-is_size c =
-    let sized-is : sized c.args.n ≡ true =
-    sym c.is_size.ensures ∙ c.if-is_size.true in
-    let size : Sized c.args.n =
-    size_in_range (sized-is) in
-    omega (arith, room c.args.n (size).size)
+    omega (arith, room c.args.n (size c).size)
 
 pub returns-then-cube-count : goal.returns-then-cube-count
 unfolding apply_refusal lowest
@@ -42,11 +44,9 @@ returns-then-work-count c =
 
 pub returns-then-is_size : goal.returns-then-is_size
 returns-then-is_size c =
-    let sized-is : sized c.args.n ≡ true =
-    sym c.is_size.ensures ∙ c.if-is_size.true in
     let a = c.args in
     c.list_refusal.ensures
-    ∙ sym (apply_list a.n a.cube a.work a.moves.now (sized-is) c.if-cube-count.false c.if-work-count.false)
+    ∙ sym (apply_list a.n a.cube a.work a.moves.now (sized-is (goal.at.returns-then-is_size c).Then-is_size) c.if-cube-count.false c.if-work-count.false)
 
 pub returns : goal.returns
 unfolding apply_refusal lowest

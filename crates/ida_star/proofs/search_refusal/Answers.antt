@@ -16,6 +16,35 @@ use Rattle.ida_star.specs.Inner.{late_refusal}
 use Rattle.ida_star.proofs.IdaStarLaws.{search_listed, search_behind}
 use native.Mathlib.Omega.{arith}
 use Rattle.ida_star.proofs.search_refusal.Goals as goal
+use Rattle.ida_star.proofs.search_refusal.Goals.{Else-is_beyond, Else-not-is_small, Else-number-ne0, Start}
+
+sized : (c : Else-not-is_small) → not (small c.args.n) ≡ false
+sized c =
+    ap not (sym c.is_small.ensures ∙ c.if-not-is_small.false)
+
+bounds : (c : Else-not-is_small) → (1 ≤ c.args.n) × (c.args.n ≤ 7)
+bounds c =
+    small_bounds _ (not-false _ (sized c))
+
+listed : (c : Else-number-ne0) → list_refusal c.args.n c.args.moves.now ≡ 0
+listed c =
+    sym c.list_refusal-number.ensures ∙ c.if-number-ne0.false
+
+-- the search that is asked for
+abbrev asked : (c : Start) → CubeSearch
+asked c =
+    record { n = c.args.n; cube = c.args.cube.now; table = c.args.table.now; depth = c.args.depth; candidates = c.args.moves.now; limit = c.args.limit }
+
+-- the list is in order: rows 6 to 9 are left
+behind : (c : Else-number-ne0) → let a = c.args in search_refusal (record { n = c.args.n; cube = c.args.cube.now; table = c.args.table.now; depth = c.args.depth; candidates = c.args.moves.now; limit = c.args.limit }) a.work a.out ≡ pick (ltb a.out a.limit) 6 (pick (beyond (length a.moves.now) a.limit a.depth) 7 (late_refusal a.n a.table.now a.limit a.work))
+behind c =
+    let sized : not (small c.args.n) ≡ false = ap not (sym c.is_small.ensures ∙ c.if-not-is_small.false) in
+    let asked : CubeSearch = record { n = c.args.n; cube = c.args.cube.now; table = c.args.table.now; depth = c.args.depth; candidates = c.args.moves.now; limit = c.args.limit } in
+    search_behind asked _ _ sized c.if-cube-n.false (listed c)
+
+near : (c : Else-is_beyond) → beyond (length c.args.moves.now) c.args.limit c.args.depth ≡ false
+near c =
+    sym c.is_beyond.ensures ∙ c.if-is_beyond.false
 
 pub returns-then-not-is_small : goal.returns-then-not-is_small
 unfolding search_refusal lowest
@@ -23,82 +52,36 @@ returns-then-not-is_small c = simp (ap not (sym c.is_small.ensures ∙ c.if-not-
 
 pub overflow_mul-n : goal.overflow_mul-n
 overflow_mul-n c =
-    let sized : not (small c.args.n) ≡ false =
-    ap not (sym c.is_small.ensures ∙ c.if-not-is_small.false) in
-    let bounds : (1 ≤ c.args.n) × (c.args.n ≤ 7) =
-    small_bounds _ (not-false _ (sized)) in
-    omega (arith, bounds)
+    omega (arith, (bounds c))
 
 pub overflow_mul-n-2 : goal.overflow_mul-n-2
 overflow_mul-n-2 c =
-    let sized : not (small c.args.n) ≡ false =
-    ap not (sym c.is_small.ensures ∙ c.if-not-is_small.false) in
-    let bounds : (1 ≤ c.args.n) × (c.args.n ≤ 7) =
-    small_bounds _ (not-false _ (sized)) in
-    omega (arith, small_cube _ (bounds).1)
+    omega (arith, small_cube _ (bounds c).1)
 
 pub returns-then-cube-n : goal.returns-then-cube-n
 unfolding search_refusal lowest
 returns-then-cube-n c =
-    let sized : not (small c.args.n) ≡ false =
-    ap not (sym c.is_small.ensures ∙ c.if-not-is_small.false) in
-    simp (sized, ne_eqb _ _ c.if-cube-n.true)
+    simp ((sized (goal.at.returns-then-cube-n c).Else-not-is_small), ne_eqb _ _ c.if-cube-n.true)
 
 pub returns-then-number-ne0 : goal.returns-then-number-ne0
 returns-then-number-ne0 c =
-    let sized : not (small c.args.n) ≡ false =
-    ap not (sym c.is_small.ensures ∙ c.if-not-is_small.false) in
-    let asked : CubeSearch =
-    record { n = c.args.n; cube = c.args.cube.now; table = c.args.table.now; depth = c.args.depth; candidates = c.args.moves.now; limit = c.args.limit } in
-    search_listed (asked) _ _ (sized) c.if-cube-n.false
+    search_listed (asked (goal.at.returns-then-number-ne0 c).Start) _ _ (sized (goal.at.returns-then-number-ne0 c).Else-not-is_small) c.if-cube-n.false
     c.list_refusal-number.ensures c.if-number-ne0.true
 
 pub returns-then-out-limit : goal.returns-then-out-limit
 returns-then-out-limit c =
-    let sized : not (small c.args.n) ≡ false =
-    ap not (sym c.is_small.ensures ∙ c.if-not-is_small.false) in
-    let listed : list_refusal c.args.n c.args.moves.now ≡ 0 =
-    sym c.list_refusal-number.ensures ∙ c.if-number-ne0.false in
-    let asked : CubeSearch =
-    record { n = c.args.n; cube = c.args.cube.now; table = c.args.table.now; depth = c.args.depth; candidates = c.args.moves.now; limit = c.args.limit } in
-    let behind : let a = c.args in search_refusal (asked) a.work a.out ≡ pick (ltb a.out a.limit) 6 (pick (beyond (length a.moves.now) a.limit a.depth) 7 (late_refusal a.n a.table.now a.limit a.work)) =
-    search_behind (asked) _ _ (sized) c.if-cube-n.false (listed) in
-    sym (behind ∙ rw (lt-ltb _ _ c.if-out-limit.true))
+    sym ((behind (goal.at.returns-then-out-limit c).Else-number-ne0) ∙ rw (lt-ltb _ _ c.if-out-limit.true))
 
 pub returns-then-is_beyond : goal.returns-then-is_beyond
 returns-then-is_beyond c =
-    let sized : not (small c.args.n) ≡ false =
-    ap not (sym c.is_small.ensures ∙ c.if-not-is_small.false) in
-    let listed : list_refusal c.args.n c.args.moves.now ≡ 0 =
-    sym c.list_refusal-number.ensures ∙ c.if-number-ne0.false in
-    let asked : CubeSearch =
-    record { n = c.args.n; cube = c.args.cube.now; table = c.args.table.now; depth = c.args.depth; candidates = c.args.moves.now; limit = c.args.limit } in
-    let behind : let a = c.args in search_refusal (asked) a.work a.out ≡ pick (ltb a.out a.limit) 6 (pick (beyond (length a.moves.now) a.limit a.depth) 7 (late_refusal a.n a.table.now a.limit a.work)) =
-    search_behind (asked) _ _ (sized) c.if-cube-n.false (listed) in
-    sym (behind ∙ rw (le-ltb _ _ c.if-out-limit.false, sym c.is_beyond.ensures ∙ c.if-is_beyond.true))
+    sym ((behind (goal.at.returns-then-is_beyond c).Else-number-ne0) ∙ rw (le-ltb _ _ c.if-out-limit.false, sym c.is_beyond.ensures ∙ c.if-is_beyond.true))
 
 pub late_refusal-requires : goal.late_refusal-requires
 late_refusal-requires c =
-    let sized : not (small c.args.n) ≡ false =
-    ap not (sym c.is_small.ensures ∙ c.if-not-is_small.false) in
-    let bounds : (1 ≤ c.args.n) × (c.args.n ≤ 7) =
-    small_bounds _ (not-false _ (sized)) in
-    let near : beyond (length c.args.moves.now) c.args.limit c.args.depth ≡ false =
-    sym c.is_beyond.ensures ∙ c.if-is_beyond.false in
-    let b = bounds in
-    let r = in_reach _ _ _ (near) in
+    let b = (bounds (goal.at.late_refusal-requires c).Else-not-is_small) in
+    let r = in_reach _ _ _ (near c) in
     record { some = b.0; size = b.1; low = r.low }
 
 pub returns : goal.returns
 returns c =
-    let sized : not (small c.args.n) ≡ false =
-    ap not (sym c.is_small.ensures ∙ c.if-not-is_small.false) in
-    let listed : list_refusal c.args.n c.args.moves.now ≡ 0 =
-    sym c.list_refusal-number.ensures ∙ c.if-number-ne0.false in
-    let asked : CubeSearch =
-    record { n = c.args.n; cube = c.args.cube.now; table = c.args.table.now; depth = c.args.depth; candidates = c.args.moves.now; limit = c.args.limit } in
-    let behind : let a = c.args in search_refusal (asked) a.work a.out ≡ pick (ltb a.out a.limit) 6 (pick (beyond (length a.moves.now) a.limit a.depth) 7 (late_refusal a.n a.table.now a.limit a.work)) =
-    search_behind (asked) _ _ (sized) c.if-cube-n.false (listed) in
-    let near : beyond (length c.args.moves.now) c.args.limit c.args.depth ≡ false =
-    sym c.is_beyond.ensures ∙ c.if-is_beyond.false in
-    c.late_refusal.ensures ∙ sym (behind ∙ rw (le-ltb _ _ c.if-out-limit.false, near))
+    c.late_refusal.ensures ∙ sym ((behind (goal.at.returns c).Else-number-ne0) ∙ rw (le-ltb _ _ c.if-out-limit.false, (near (goal.at.returns c).Else-is_beyond)))

@@ -10,6 +10,12 @@ use Rattle.generic_cube.proofs.CodeLaws.{taken, refused}
 use Rattle.geometric_moves.specs.Turn.{moved}
 use Rattle.ida_star.proofs.VisitLaws.{second_long, put_next}
 use Rattle.ida_star.proofs.turn_level.Goals as goal
+use Rattle.ida_star.proofs.turn_level.Goals.{In-Taken}
+
+-- the move that was read is the code's
+move-is : (c : In-Taken) → c.in-Taken.m ≡ move_of c.args.code
+move-is c =
+    (taken _ _ (sym c.in-Taken.is ∙ c.read_code.ensures)).0
 
 pub returns-in_default : goal.returns-in_default
 returns-in_default c =
@@ -17,23 +23,19 @@ returns-in_default c =
 
 pub apply_move-requires : goal.apply_move-requires
 apply_move-requires c =
-    let move-is : c.in-Taken.m ≡ move_of c.args.code =
-    (taken _ _ (sym c.in-Taken.is ∙ c.read_code.ensures)).0 in
     let s = stickers c.args.n in
     let e : s + s - s ≡ s = omega arith in
     let long = second_long s c.args.work.now c.requires.room e c.double.ensures in
     record {
       sized = record { some = c.requires.some; size = omega (arith, c.requires.size) };
-      fair = subst (Fair c.args.n) (sym (move-is)) c.requires.fair;
+      fair = subst (Fair c.args.n) (sym (move-is (goal.at.apply_move-requires c).In-Taken)) c.requires.fair;
       old_long = long;
       new_long = long;
     }
 
 pub returns : goal.returns
 returns c =
-    let move-is : c.in-Taken.m ≡ move_of c.args.code =
-    (taken _ _ (sym c.in-Taken.is ∙ c.read_code.ensures)).0 in
     let s = stickers c.args.n in
     let e : s + s - s ≡ s = omega arith in
     put_next s c.args.work.now c.requires.room e c.double.ensures (moved c.args.n (move_of c.args.code))
-    (c.apply_move.ensures ∙ ap₂ (moved c.args.n) (move-is) refl)
+    (c.apply_move.ensures ∙ ap₂ (moved c.args.n) (move-is (goal.at.returns c).In-Taken) refl)

@@ -8,6 +8,21 @@ use Rattle.table.specs.Entries.{entry_key, Rising}
 use Rattle.table.specs.Table.{entry_count}
 use Rattle.table.proofs.TableLaws.{comparable, formed_rising, number_look, look_found, half_less, half_more, look_halved}
 use Rattle.table.proofs.number.Goals as goal
+use Rattle.table.proofs.number.Goals.{After-compare, At-loop-span}
+
+abbrev half_of : (c : At-loop-span) → ℕ
+half_of c =
+    c.loop-span.span / 2
+
+-- the keys rise, and there are no more of them than bytes
+rising : (c : At-loop-span) → Rising (entry_key c.args.m c.args.table.now) (entry_count c.args.m c.args.table.now)
+rising c =
+    formed_rising _ _ c.requires.formed
+
+-- the order of the middle key and the one that is looked up
+compared : (c : After-compare) → order_of (entry_key c.args.m c.args.table.now (c.loop-span.low + (c.loop-span.span / 2))) c.args.key.now ≡ c.compare.result
+compared c =
+    order_told c.key_at.ensures refl c.compare.ensures
 
 pub compare-requires : goal.compare-requires
 compare-requires c =
@@ -16,35 +31,20 @@ compare-requires c =
 
 pub returns-in-Same : goal.returns-in-Same
 returns-in-Same c =
-    let half_of : ℕ =
-    c.loop-span.span / 2 in
-    let rising : Rising (entry_key c.args.m c.args.table.now) (entry_count c.args.m c.args.table.now) =
-    formed_rising _ _ c.requires.formed in
-    let compared : order_of (entry_key c.args.m c.args.table.now (c.loop-span.low + half_of)) c.args.key.now ≡ c.compare.result =
-    order_told c.key_at.ensures refl c.compare.ensures in
+    let k0 = (goal.at.returns-in-Same c).At-loop-span in
     let a = c.args in
     c.number_at.ensures ∙ sym (number_look a.m a.table.now a.depth a.key.now
-    ∙ look_found _ _ _ _ (rising) _ (c.loop-span.low + half_of) (omega (arith, c.loop-span.invariant.most)) (same_eq _ _ (compared ∙ c.in-Same.is)))
+    ∙ look_found _ _ _ _ (rising k0) _ (c.loop-span.low + (half_of k0)) (omega (arith, c.loop-span.invariant.most)) (same_eq _ _ ((compared (goal.at.returns-in-Same c).After-compare) ∙ c.in-Same.is)))
 
 pub loop-span-preserved-in-Less : goal.loop-span-preserved-in-Less
 loop-span-preserved-in-Less c =
-    let half_of : ℕ =
-    c.loop-span.span / 2 in
-    let rising : Rising (entry_key c.args.m c.args.table.now) (entry_count c.args.m c.args.table.now) =
-    formed_rising _ _ c.requires.formed in
-    let compared : order_of (entry_key c.args.m c.args.table.now (c.loop-span.low + half_of)) c.args.key.now ≡ c.compare.result =
-    order_told c.key_at.ensures refl c.compare.ensures in
-    half_less (rising) c.loop-span.invariant (half_of) (omega arith) (compared ∙ c.in-Less.is)
+    let k0 = (goal.at.loop-span-preserved-in-Less c).At-loop-span in
+    half_less (rising k0) c.loop-span.invariant (half_of k0) (omega arith) ((compared (goal.at.loop-span-preserved-in-Less c).After-compare) ∙ c.in-Less.is)
 
 pub loop-span-preserved : goal.loop-span-preserved
 loop-span-preserved c =
-    let half_of : ℕ =
-    c.loop-span.span / 2 in
-    let rising : Rising (entry_key c.args.m c.args.table.now) (entry_count c.args.m c.args.table.now) =
-    formed_rising _ _ c.requires.formed in
-    let compared : order_of (entry_key c.args.m c.args.table.now (c.loop-span.low + half_of)) c.args.key.now ≡ c.compare.result =
-    order_told c.key_at.ensures refl c.compare.ensures in
-    half_more (rising) c.loop-span.invariant (half_of) (omega arith) (compared ∙ c.in-More.is)
+    let k0 = (goal.at.loop-span-preserved c).At-loop-span in
+    half_more (rising k0) c.loop-span.invariant (half_of k0) (omega arith) ((compared (goal.at.loop-span-preserved c).After-compare) ∙ c.in-More.is)
 
 pub returns : goal.returns
 returns c =

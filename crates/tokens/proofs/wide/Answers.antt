@@ -5,6 +5,12 @@ use Rattle.generic_cube.proofs.CodeLaws.{sized_bounds, inside}
 use Rattle.tokens.specs.Token.{is_wide_token}
 use Rattle.tokens.proofs.TokenLaws.{out_left, out_width, out_wide, suffix_wide, lettered_few}
 use Rattle.tokens.proofs.wide.Goals as goal
+use Rattle.tokens.proofs.wide.Goals.{After-is_outside-unfit}
+
+-- a wide token was read up to its suffix
+wide : (c : After-is_outside-unfit) → is_wide_token c.args.t.now c.args.k ≡ false → c.args.k ≡ 0
+wide c =
+    λ w. absurd (true≢false (sym c.requires.2 ∙ w))
 
 pub overflow_add-k : goal.overflow_add-k
 overflow_add-k c = omega (arith, (lettered_few _ _ c.requires.1).0)
@@ -20,15 +26,11 @@ overflow_sub-n c = (sized_bounds _ c.requires.0).0
 
 pub returns-then-t-wide_end : goal.returns-then-t-wide_end
 returns-then-t-wide_end c =
-    let wide : is_wide_token c.args.t.now c.args.k ≡ false → c.args.k ≡ 0 =
-    λ w. absurd (true≢false (sym c.requires.2 ∙ w)) in
-    out_left _ _ _ c.requires.1 (wide) (suffix_wide _ _ c.requires.2) c.suffix-mark.ensures.0 c.if-t-wide_end.true
+    out_left _ _ _ c.requires.1 (wide (goal.at.returns-then-t-wide_end c).After-is_outside-unfit) (suffix_wide _ _ c.requires.2) c.suffix-mark.ensures.0 c.if-t-wide_end.true
 
 pub returns-then-unfit : goal.returns-then-unfit
 returns-then-unfit c =
-    let wide : is_wide_token c.args.t.now c.args.k ≡ false → c.args.k ≡ 0 =
-    λ w. absurd (true≢false (sym c.requires.2 ∙ w)) in
-    out_width _ _ _ c.requires.1 (wide) (suffix_wide _ _ c.requires.2) c.suffix-mark.ensures.0 (omega arith) c.requires.2 c.width-width.ensures (sym c.is_outside-unfit.ensures ∙ c.if-unfit.true)
+    out_width _ _ _ c.requires.1 (wide (goal.at.returns-then-unfit c).After-is_outside-unfit) (suffix_wide _ _ c.requires.2) c.suffix-mark.ensures.0 (omega arith) c.requires.2 c.width-width.ensures (sym c.is_outside-unfit.ensures ∙ c.if-unfit.true)
 
 pub overflow_add-kind : goal.overflow_add-kind
 overflow_add-kind c = omega (arith, (lettered_few _ _ c.requires.1).1)
@@ -38,6 +40,4 @@ code_of-requires c = let s = sized_bounds _ c.requires.0 in let w = inside _ _ _
 
 pub returns : goal.returns
 returns c =
-    let wide : is_wide_token c.args.t.now c.args.k ≡ false → c.args.k ≡ 0 =
-    λ w. absurd (true≢false (sym c.requires.2 ∙ w)) in
-    out_wide _ _ _ c.requires.1 (wide) (suffix_wide _ _ c.requires.2) c.suffix-mark.ensures.0 (omega arith) c.requires.2 c.width-width.ensures (sym c.is_outside-unfit.ensures ∙ c.if-unfit.false) c.code_of.ensures
+    out_wide _ _ _ c.requires.1 (wide (goal.at.returns c).After-is_outside-unfit) (suffix_wide _ _ c.requires.2) c.suffix-mark.ensures.0 (omega arith) c.requires.2 c.width-width.ensures (sym c.is_outside-unfit.ensures ∙ c.if-unfit.false) c.code_of.ensures

@@ -6,6 +6,12 @@ use Rattle.generic_cube.proofs.CodeLaws.{inside}
 use Rattle.cube_response.proofs.ProgramLaws.{size_other, size_long, size_zero, size_is}
 use native.Mathlib.Omega.{arith}
 use Rattle.cube_response.proofs.lines.read_size.Goals as goal
+use Rattle.cube_response.proofs.lines.read_size.Goals.{Else-is_outside}
+
+-- one or two digits
+few : (c : Else-is_outside) → outside 1 2 c.digits-k.result ≡ false
+few c =
+    sym c.is_outside.ensures ∙ c.if-is_outside.false
 
 pub returns-then-k-one : goal.returns-then-k-one
 returns-then-k-one c = size_other _ c.digits-k.ensures.0 c.if-k-one.true
@@ -15,19 +21,13 @@ returns-then-is_outside c = size_long _ c.digits-k.ensures.0 c.if-k-one.false (s
 
 pub bounds-one-0 : goal.bounds-one-0
 bounds-one-0 c =
-    let few : outside 1 2 c.digits-k.result ≡ false =
-    sym c.is_outside.ensures ∙ c.if-is_outside.false in
-    omega (arith, c.if-k-one.false, (inside 1 2 _ (few)).0)
+    omega (arith, c.if-k-one.false, (inside 1 2 _ (few (goal.at.bounds-one-0 c).Else-is_outside)).0)
 
 pub returns-then-one-eq48 : goal.returns-then-one-eq48
 returns-then-one-eq48 c =
-    let few : outside 1 2 c.digits-k.result ≡ false =
-    sym c.is_outside.ensures ∙ c.if-is_outside.false in
-    size_zero _ c.digits-k.ensures.0 c.if-k-one.false (few) c.if-one-eq48.true
+    size_zero _ c.digits-k.ensures.0 c.if-k-one.false (few (goal.at.returns-then-one-eq48 c).Else-is_outside) c.if-one-eq48.true
 
 pub returns : goal.returns
 returns c =
-    let few : outside 1 2 c.digits-k.result ≡ false =
-    sym c.is_outside.ensures ∙ c.if-is_outside.false in
-    size_is _ c.digits-k.ensures.0 c.if-k-one.false (few) c.if-one-eq48.false
+    size_is _ c.digits-k.ensures.0 c.if-k-one.false (few (goal.at.returns c).Else-is_outside) c.if-one-eq48.false
     c.number-n.ensures (omega arith)
