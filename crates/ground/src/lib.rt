@@ -4,3 +4,4 @@
 pub mod bytes;
 pub mod codes;
 pub mod ids;
+pub mod refusals;
