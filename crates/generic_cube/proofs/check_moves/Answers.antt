@@ -1,6 +1,6 @@
 use Rattle.generic_cube.specs.Code.{refusal_in, list_refusal}
-use Rattle.generic_cube.proofs.list_refusal.Goals as goal
+use Rattle.generic_cube.proofs.check_moves.Goals as goal
 
 pub returns : goal.returns
 unfolding refusal_in list_refusal
-returns c = c.refusal_in.ensures
+returns c = c.check_moves_in.ensures
