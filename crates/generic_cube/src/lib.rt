@@ -32,6 +32,7 @@ pub fn is_between(low: usize, high: usize, x: usize) -> bool
 }
 
 // The sizes 1 to 104.
+#[tactic(auto, unfolding(crate::specs::Sizes::sized))]
 pub fn is_size(n: usize) -> bool
     ensures { result ≡ sized n }
 {
@@ -39,6 +40,7 @@ pub fn is_size(n: usize) -> bool
 }
 
 // The sizes of tables and search, 1 to 7.
+#[tactic(auto, unfolding(crate::specs::Sizes::small))]
 pub fn is_small(n: usize) -> bool
     ensures { result ≡ small n }
 {
@@ -54,6 +56,7 @@ pub fn is_beyond(count: usize, limit: usize, depth: usize) -> bool
 }
 
 // Kinds 6 to 11 have a width.
+#[tactic(auto, unfolding(crate::specs::Code::is_wide))]
 pub fn is_wide(kind: usize) -> bool
     ensures { result ≡ is_wide kind }
 {
@@ -61,6 +64,7 @@ pub fn is_wide(kind: usize) -> bool
 }
 
 // The code of a move.
+#[tactic(auto, unfolding(crate::specs::Code::code_of))]
 pub fn code_of(m: Move) -> MoveCode
     requires { Codable m }
     ensures { result ≡ code_of m }
@@ -84,6 +88,7 @@ pub fn read_code(code: MoveCode) -> Result<Move, Refusal>
 }
 
 // Whether a width is outside the range low to high.
+#[tactic(auto, unfolding(crate::specs::Code::outside))]
 pub fn is_outside(low: usize, high: usize, width: usize) -> bool
     ensures { result ≡ outside low high width }
 {
@@ -91,6 +96,7 @@ pub fn is_outside(low: usize, high: usize, width: usize) -> bool
 }
 
 // A code without its turn: kind and width in one number.
+#[tactic(auto, unfolding(crate::specs::Code::move_of))]
 fn without_turn(c: MoveCode) -> MoveCode
     ensures { result ≡ (move_of c).width * 16 + (move_of c).kind }
 {
@@ -98,6 +104,7 @@ fn without_turn(c: MoveCode) -> MoveCode
 }
 
 // Whether two neighbours join: they have equal kind and width. The search never makes two such moves in a row.
+#[tactic(auto, using(crate::proofs::CodeLaws::joins_is))]
 pub fn do_join(a: MoveCode, b: MoveCode) -> bool
     ensures { result ≡ joins a b }
 {
@@ -105,6 +112,7 @@ pub fn do_join(a: MoveCode, b: MoveCode) -> bool
 }
 
 // The turn of a code.
+#[tactic(auto, unfolding(crate::specs::Code::move_of))]
 pub fn turn_of(code: MoveCode) -> MoveCode
     ensures { result ≡ (move_of code).turn }
 {
@@ -112,6 +120,7 @@ pub fn turn_of(code: MoveCode) -> MoveCode
 }
 
 // The same kind and width in another turn.
+#[tactic(auto, using(crate::proofs::CodeLaws::turned_is))]
 pub fn with_turn(code: MoveCode, turn: MoveCode) -> MoveCode
     requires { turn ≤ 3 }
     ensures { result ≡ turned_to code turn }
@@ -141,6 +150,7 @@ pub fn check_moves_in(low: usize, high: usize, list: &[MoveCode]) -> Result<(), 
 }
 
 // The refusal of a list that is applied, simplified, inverted or searched with.
+#[tactic(auto, unfolding(crate::specs::Code::refusal_in, crate::specs::Code::list_refusal))]
 pub fn check_moves(n: usize, list: &[MoveCode]) -> Result<(), Refusal>
     ensures { result ≡ done (list_refusal n list.now) }
 {
