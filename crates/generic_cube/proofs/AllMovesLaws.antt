@@ -18,7 +18,7 @@ use Rattle.ground.proofs.RefusalLaws.{passed}
 use Rattle.generic_cube.specs.Code.{move, code_of}
 use Rattle.generic_cube.specs.AllMoves.{widths_of, turns_of, moves_of, face_kinds, wide_kinds, all_moves, all_rows, all_refusal, AllMovesResult}
 use Rattle.generic_cube.specs.Inner.{Kinds}
-use Rattle.generic_cube.specs.declared.Answer.TheVariants.{Value}
+use Rattle.std.specs.Prelude.{Ok}
 use Rattle.generic_cube.proofs.AnswerLaws.{answer_value_lem}
 use Rattle.generic_cube.proofs.CodeLaws.{sized_bounds}
 
@@ -40,9 +40,9 @@ unfolding moves_of
 length_moves kinds widths = length-each kinds (turns_of widths) (3 * length widths) (length_turns widths)
 
 -- 18 + 18·(n/2 rounded down) codes
-pub length-all : (n : ℕ) → length (all_moves n) ≡ 18 + 18 * (n / 2)
+pub length_all : (n : ℕ) → length (all_moves n) ≡ 18 + 18 * (n / 2)
 unfolding all_moves
-length-all n =
+length_all n =
     simp (length-append, length_moves, length_from) (omega arith)
 
 -- no refusal: the size is in range and there is room for all
@@ -54,7 +54,7 @@ pub all_room : (n room : ℕ) → all_refusal n room ≡ 0 → AllRoom n room
 unfolding all_refusal
 all_room n room e =
     let p = passed (all_rows n room) refl e in
-    record { size = (sized_bounds n (not-false _ p.0)).1; fits = omega (arith, length-all n, ltb-false room (length (all_moves n)) p.1.0) }
+    record { size = (sized_bounds n (not-false _ p.0)).1; fits = omega (arith, length_all n, ltb-false room (length (all_moves n)) p.1.0) }
 
 -- a test that holds of each element holds at each place, past the end too where it holds of 0
 pub holds_at : (p : ℕ → Bool) (xs : List ℕ) → any (λ x. not (p x)) xs ≡ false → p 0 ≡ true → (i : ℕ) → p (get_or xs i 0) ≡ true
@@ -74,10 +74,10 @@ faces_next p = p.next ∙ omega (arith, length_moves face_kinds (0 ∷ []))
 -- faces, then wide kinds: the whole output
 pub all_stored : (n : ℕ) {out mid new : List ℕ} {r s : ℕ} → all_refusal n (length out) ≡ 0
     → Put out 0 (moves_of face_kinds (0 ∷ [])) mid r → Put mid r (moves_of wide_kinds (up_from 1 (n / 2))) new s
-    → AllMovesResult n out new (Value s)
+    → AllMovesResult n out new (Ok s)
 unfolding all_moves
 all_stored n {out} {mid} {new} {r} {s} z p q =
     let w : Put out 0 (all_moves n) new s = put_then p q in
-    let fits : 0 + length (all_moves n) ≤ length out = omega (arith, all_room n (length out) z, length-all n) in
+    let fits : 0 + length (all_moves n) ≤ length out = omega (arith, all_room n (length out) z, length_all n) in
     let e = zero-add (length (all_moves n)) in
     answer_value_lem z (w.next ∙ e) (w.stored ∙ sets-eq (all_moves n) out 0 fits ∙ rw e)

@@ -3,6 +3,7 @@ use Prim.Native.Nat.{ℕ, suc, ◌+◌, ◌*◌, ◌/◌, ◌<◌, ◌≤◌}
 use mathlib.Core.Path.{◌≡◌, refl, sym, subst, ◌∙◌}
 use mathlib.Core.Bool.{Bool, true, false, true≢false}
 use mathlib.Core.List.{List, [], ◌∷◌}
+use Rattle.std.specs.Prelude.{Result, Ok, Err}
 use native.Mathlib.Omega.{arith}
 use native.Mathlib.Numerals.{add-one}
 use native.Mathlib.Nat.{mul-le-mul}
@@ -11,11 +12,12 @@ use lib.ListN.{length, get_or, drop, drop_of_length-le}
 use lib.Seq.{drop-cons}
 use borrow.Author.Tests.{ne_eqb, eq-eqb, eqb-false, eqb-true, ltb-false, not-false}
 use Rattle.ground.specs.Choice.{pick, any}
+use Rattle.ground.specs.declared.refusals.Refusal.{Refusal}
+use Rattle.ground.specs.declared.refusals.Refusal.TheVariants.{Code}
 use Rattle.ground.specs.Refusals.{lowest}
 use Rattle.ground.proofs.ChoiceLaws.{bool_cases, between_bounds, bounds_between, any_none}
 use Rattle.ground.proofs.RefusalLaws.{Pass, passed, pass_lowest}
 use Rattle.generic_cube.specs.declared.Move.{Move}
-use Rattle.generic_cube.specs.declared.Code.TheVariants.{Taken, Refused}
 use Rattle.generic_cube.specs.Sizes.{sized, small, beyond, stickers}
 use Rattle.generic_cube.specs.Code.{code_of, move_of, with_turn, turned_to, is_wide, bad_code, read_code, outside, bad_width_in, rows_in, refusal_in, list_refusal, joins}
 use Rattle.generic_cube.specs.Inner.{Sized, Fair}
@@ -161,18 +163,19 @@ fair n c h e d =
         (λ w. omega (arith, code_width c e w))
 
 -- a code that is taken is its move
-pub taken : (c : ℕ) (m : Move) → Taken m ≡ read_code c → (m ≡ move_of c) × (bad_code (move_of c) ≡ false)
+pub taken : (c : ℕ) (m : Move) → Ok m ≡ read_code c → (m ≡ move_of c) × (bad_code (move_of c) ≡ false)
 unfolding read_code
 taken c m e =
     bool_cases (bad_code (move_of c))
-    (λ t. let q : Taken m ≡ Refused 3 = rw t at e in let z : ◌≡◌ {A = ℕ} 0 1 = cc in absurd (omega arith))
-    (λ t. let q : Taken m ≡ Taken (move_of c) = rw t at e in (cc, t))
+    (λ t. let q : Ok m ≡ Err Code = rw t at e in let z : ◌≡◌ {A = ℕ} 0 1 = cc in absurd (omega arith))
+    (λ t. let q : Ok m ≡ Ok (move_of c) = rw t at e in (cc, t))
 
-pub refused : (c k : ℕ) → Refused k ≡ read_code c → bad_code (move_of c) ≡ true
+pub refused : (c : ℕ) (r : Refusal) → Err r ≡ read_code c → (r ≡ Code) × (bad_code (move_of c) ≡ true)
 unfolding read_code
-refused c k e =
-    bool_cases (bad_code (move_of c)) (λ t. t)
-    (λ t. let q : Refused k ≡ Taken (move_of c) = rw t at e in let z : ◌≡◌ {A = ℕ} 0 1 = cc in absurd (omega arith))
+refused c r e =
+    bool_cases (bad_code (move_of c))
+    (λ t. let q : ◌≡◌ {A = Result Move Refusal} (Err r) (Err Code) = rw t at e in (cc, t))
+    (λ t. let q : Err r ≡ Ok (move_of c) = rw t at e in let z : ◌≡◌ {A = ℕ} 0 1 = cc in absurd (omega arith))
 
 -- no refusal anywhere in a list: no code is bad, and no width
 module _ (low high : ℕ) (cs : List ℕ) (e : refusal_in low high cs ≡ 0) where
@@ -242,12 +245,12 @@ module _ (n : ℕ) (cs : List ℕ) (e : list_refusal n cs ≡ 0) where
   list_fair i k h = fair n (get_or cs i 0) k (list_code i h) (width_in 1 n cs e i h)
 
   -- so a walker that takes its code apart has that move, and meets no refusal
-  pub list_taken : {i : ℕ} {m : Move} → 1 ≤ n → i < length cs → Taken m ≡ read_code (get_or cs i 0) → (m ≡ move_of (get_or cs i 0)) × Fair n m
+  pub list_taken : {i : ℕ} {m : Move} → 1 ≤ n → i < length cs → Ok m ≡ read_code (get_or cs i 0) → (m ≡ move_of (get_or cs i 0)) × Fair n m
   list_taken {i} {m} k h t =
       let q = (taken (get_or cs i 0) m t).0 in (q, subst (Fair n) (sym q) (list_fair i k h))
 
-  pub list_reads : {i k : ℕ} → i < length cs → Refused k ≡ read_code (get_or cs i 0) → ⊥
-  list_reads {i} {k} h t = true≢false (sym (refused (get_or cs i 0) k t) ∙ list_code i h)
+  pub list_reads : {i : ℕ} {r : Refusal} → i < length cs → Err r ≡ read_code (get_or cs i 0) → ⊥
+  list_reads {i} {r} h t = true≢false (sym (refused (get_or cs i 0) r t).1 ∙ list_code i h)
 
 -- the walk: `r` is what was remembered, and the first code that is refused ends it
 unfoldable pub walked : ℕ → ℕ → ℕ → List ℕ → ℕ

@@ -1,32 +1,44 @@
--- What a sticker's number that is not refused says of the sizes on the way to its index.
+-- The place of a face's letter, and the sizes on the way to a sticker's index.
 use Prim.Native.Nat.{ℕ, ◌*◌, ◌≤◌}
-use mathlib.Core.Path.{◌≡◌, refl, sym, subst}
+use mathlib.Core.Path.{◌≡◌}
 use native.Mathlib.Omega.{arith}
 use native.Mathlib.Nat.{mul-le-mul}
-use borrow.Author.Tests.{not-false}
-use Rattle.ground.proofs.ChoiceLaws.{position_most}
-use Rattle.ground.proofs.RefusalLaws.{passed}
-use Rattle.generic_cube.specs.Sizes.{letters}
-use Rattle.generic_cube.specs.StickerIndex.{face_number, sticker_rows, sticker_refusal}
+use mathlib.Core.Bool.{true, false, not}
+use borrow.Author.Tests.{ltb-false}
+use Rattle.ground.proofs.ChoiceLaws.{bool_cases}
+use Rattle.std.specs.Prelude.{Option, Some, None, position, ◌==◌}
+use Rattle.std.proofs.lemmas.List.Sums.{prefix_len-le-length}
+use lib.Dec.{ltb}
+use Rattle.generic_cube.specs.Sizes.{sized, letters}
+use Rattle.generic_cube.specs.StickerIndex.{face_number}
+use Rattle.generic_cube.specs.Code.{outside}
 use Rattle.generic_cube.proofs.CodeLaws.{sized_bounds, inside}
 
--- k is the face's number
+-- a letter that is found has the face's number, and where none is found that is 6
+pub found : (face k : ℕ) → position (λ x. x == face) letters ≡ Some k → k ≡ face_number face
+found face k e =
+    bool_cases (ltb (face_number face) 6)
+    (λ t. let q : ◌≡◌ {A = Option ℕ} (Some (face_number face)) (Some k) = rw t at e in cc)
+    (λ t. let q : ◌≡◌ {A = Option ℕ} None (Some k) = rw t at e in let z : ◌≡◌ {A = ℕ} 0 1 = cc in absurd (omega arith))
+
+pub not_found : (face : ℕ) → position (λ x. x == face) letters ≡ None → face_number face ≡ 6
+not_found face e =
+    bool_cases (ltb (face_number face) 6)
+    (λ t. let q : ◌≡◌ {A = Option ℕ} (Some (face_number face)) None = rw t at e in let z : ◌≡◌ {A = ℕ} 0 1 = cc in absurd (omega arith))
+    (λ t. omega (arith, ltb-false _ _ t, prefix_len-le-length (λ x. not (x == face)) letters))
+
+-- the sizes on the way to the index of sticker i of face k
 pub record Near (n k i : ℕ) : Type 0 where
   pub row : k * n ≤ 624
   pub side : k * n * n ≤ 64896
   pub some : 1 ≤ i
   pub most : i ≤ 10816
 
-near_face : (n face i : ℕ) → sticker_refusal n face i ≡ 0 → Near n (face_number face) i
-unfolding sticker_refusal
-near_face n face i e =
-    let p = passed (sticker_rows n face i) refl e in
-    let b = sized_bounds n (not-false _ p.0) in
-    let k : face_number face ≤ 6 = position_most face letters in
-    let r = mul-le-mul k b.1 in
+pub near : (n face i k : ℕ) → sized n ≡ true → position (λ x. x == face) letters ≡ Some k → outside 1 (n * n) i ≡ false → Near n k i
+near n face i k e f o =
+    let b = sized_bounds n e in
+    let l : face_number face ≤ 6 = prefix_len-le-length (λ x. not (x == face)) letters in
+    let r = mul-le-mul {n₁ = k} {m₁ = n} {n₂ = 6} {m₂ = 104} (omega (arith, found face k f)) b.1 in
     let q = mul-le-mul b.1 b.1 in
-    let s = inside 1 (n * n) i p.1.1.0 in
+    let s = inside 1 (n * n) i o in
     record { row = omega arith; side = mul-le-mul r b.1; some = s.0; most = omega arith }
-
-pub near : (n face i k : ℕ) → sticker_refusal n face i ≡ 0 → k ≡ face_number face → Near n k i
-near n face i k e d = subst (λ x. Near n x i) (sym d) (near_face n face i e)

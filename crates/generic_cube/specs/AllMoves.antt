@@ -1,11 +1,11 @@
 -- All moves of a size, in the source's loops.
-use Rattle.std.specs.Prelude.{ℕ, ◌/◌, not, List, [], ◌∷◌, ◌++◌, ltb, length}
+use Rattle.std.specs.Prelude.{ℕ, ◌/◌, not, List, [], ◌∷◌, ◌++◌, ltb, length, Result}
 use Rattle.ground.specs.Lists.{each, up_from, over}
 use Rattle.ground.specs.Refusals.{Row, ◌when◌, lowest}
 use Rattle.generic_cube.specs.Sizes.{sized}
 use Rattle.generic_cube.specs.Answers.{AnswerWith}
 use Rattle.generic_cube.specs.Code.{move, code_of}
-use Rattle.generic_cube.specs.declared.Answer.{Answer}
+use Rattle.ground.specs.declared.refusals.Refusal.{Refusal}
 
 -- a kind and turn, in each width; a kind, in each turn; each kind
 abbrev pub widths_of : List ℕ → ℕ → ℕ → List ℕ
@@ -35,5 +35,5 @@ unfoldable pub all_refusal : ℕ → ℕ → ℕ
 all_refusal n room = lowest (all_rows n room)
 
 -- what `all_moves` answers and leaves in its output
-abbrev pub AllMovesResult : ℕ → List ℕ → List ℕ → Answer → Type 0
+abbrev pub AllMovesResult : ℕ → List ℕ → List ℕ → Result ℕ Refusal → Type 0
 AllMovesResult n out out' r = AnswerWith (all_refusal n (length out)) (length (all_moves n)) (over (all_moves n) out) out out' r

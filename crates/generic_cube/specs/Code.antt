@@ -1,10 +1,9 @@
 -- Move codes, and the refusals of a code and of a list of them. This file alone knows how a code is put together.
-use Rattle.std.specs.Prelude.{ℕ, ◌+◌, ◌-◌, ◌*◌, ◌/◌, ◌%◌, Bool, not, ◌&&◌, ◌||◌, List, [], ◌∷◌, eqb}
+use Rattle.std.specs.Prelude.{ℕ, ◌+◌, ◌-◌, ◌*◌, ◌/◌, ◌%◌, Bool, not, ◌&&◌, ◌||◌, List, [], ◌∷◌, Result, Ok, Err, eqb}
 use Rattle.ground.specs.Choice.{pick, between, any}
-use Rattle.ground.specs.Refusals.{Row, ◌when◌, lowest}
+use Rattle.ground.specs.declared.refusals.Refusal.{Refusal}
+use Rattle.ground.specs.Refusals.{Row, ◌when◌, lowest, refusal}
 use Rattle.generic_cube.specs.declared.Move.{Move}
-use Rattle.generic_cube.specs.declared.Code.{Code}
-use Rattle.generic_cube.specs.declared.Code.TheVariants.{Taken, Refused}
 
 abbrev pub move : ℕ → ℕ → ℕ → Move
 move kind width turn = record { kind = kind; width = width; turn = turn }
@@ -36,8 +35,8 @@ unfoldable pub bad_code : Move → Bool
 bad_code m = eqb m.turn 0 || eqb m.kind 15 || (not (is_wide m.kind) && not (eqb m.width 0))
 
 -- a code is taken apart once, into kind, width and turn, or it is refused
-unfoldable pub read_code : ℕ → Code
-read_code c = pick (bad_code (move_of c)) (Refused 3) (Taken (move_of c))
+unfoldable pub read_code : ℕ → Result Move Refusal
+read_code c = pick (bad_code (move_of c)) (Err (refusal 3)) (Ok (move_of c))
 
 -- 5: a width is outside its range, low to high
 unfoldable pub outside : ℕ → ℕ → ℕ → Bool

@@ -4,54 +4,35 @@
 ghost use Rattle.std.specs.Prelude.{◌≡◌, ◌+◌, ◌*◌, ◌≤◌};
 ghost use Rattle.ground.specs.Choice.{between};
 ghost use Rattle.generic_cube.specs.Sizes.{sized, small, beyond};
+ghost use Rattle.generic_cube.specs.Answers.{done};
 ghost use Rattle.generic_cube.specs.Code.{code_of, move_of, turned_to, is_wide, bad_width_in, outside, read_code, refusal_in, list_refusal, joins};
 ghost use Rattle.generic_cube.specs.Inner.{Codable};
 
 use ground::codes::MoveCode;
+use ground::refusals::Refusal;
 
 pub mod moves;
 pub mod stickers;
 
-// The answer of an entry that gives nothing back.
-#[derive(Clone, Copy)]
-pub enum Done {
-    Ok,
-    Refused(u8),
-}
-
-// The answer of an entry that gives a value back: a count, an index.
-#[derive(Clone, Copy)]
-pub enum Answer {
-    Value(usize),
-    Refused(u8),
-}
-
-// A move taken apart. Kinds: U 0, L 1, F 2, R 3, B 4, D 5, Uw 6, .., Dw 11, X 12, Y 13, Z 14. Turns: 1, 2, 3.
-#[derive(Clone, Copy)]
+// A move taken apart. Kinds: U 0, L 1, F 2, R 3, B 4, D 5, Uw 6, .., Dw 11, X 12, Y 13, Z 14. Turns: 1, 2, 3. A kind is a number and no enum,
+// as `move_of` takes every code apart, also one of kind 15, and the theorems speak of those.
+#[derive(Clone, Copy, Debug, PartialEq, Eq)]
 pub struct Move {
     pub kind: usize,
     pub width: usize,
     pub turn: usize,
 }
 
-// What a code is: a move, or the number of its refusal.
-#[derive(Clone, Copy)]
-pub enum Code {
-    Taken(Move),
-    Refused(u8),
-}
-
 // Whether a number is low to high.
+#[tactic(auto, unfolding(ground::specs::Choice::between))]
 pub fn is_between(low: usize, high: usize, x: usize) -> bool
     ensures { result ≡ between low high x }
 {
-    if low <= x {
-        return x <= high;
-    }
-    false
+    (low..=high).contains(&x)
 }
 
 // The sizes 1 to 104.
+#[tactic(auto, unfolding(crate::specs::Sizes::sized))]
 pub fn is_size(n: usize) -> bool
     ensures { result ≡ sized n }
 {
@@ -59,6 +40,7 @@ pub fn is_size(n: usize) -> bool
 }
 
 // The sizes of tables and search, 1 to 7.
+#[tactic(auto, unfolding(crate::specs::Sizes::small))]
 pub fn is_small(n: usize) -> bool
     ensures { result ≡ small n }
 {
@@ -66,19 +48,15 @@ pub fn is_small(n: usize) -> bool
 }
 
 // More than 255 candidates, or a limit or depth above 20.
+#[tactic(auto, unfolding(crate::specs::Sizes::beyond))]
 pub fn is_beyond(count: usize, limit: usize, depth: usize) -> bool
     ensures { result ≡ beyond count limit depth }
 {
-    if 255 < count {
-        return true;
-    }
-    if 20 < limit {
-        return true;
-    }
-    20 < depth
+    255 < count || 20 < limit || 20 < depth
 }
 
 // Kinds 6 to 11 have a width.
+#[tactic(auto, unfolding(crate::specs::Code::is_wide))]
 pub fn is_wide(kind: usize) -> bool
     ensures { result ≡ is_wide kind }
 {
@@ -86,6 +64,7 @@ pub fn is_wide(kind: usize) -> bool
 }
 
 // The code of a move.
+#[tactic(auto, unfolding(crate::specs::Code::code_of))]
 pub fn code_of(m: Move) -> MoveCode
     requires { Codable m }
     ensures { result ≡ code_of m }
@@ -93,30 +72,23 @@ pub fn code_of(m: Move) -> MoveCode
     (m.width * 64 + m.kind * 4 + m.turn) as MoveCode
 }
 
-// Takes a code apart, or refuses it with 3.
-pub fn read_code(code: MoveCode) -> Code
+// Takes a code apart, or refuses it.
+#[tactic(auto, unfolding(crate::specs::Code::read_code, crate::specs::Code::bad_code, crate::specs::Code::move_of))]
+pub fn read_code(code: MoveCode) -> Result<Move, Refusal>
     ensures { result ≡ read_code code }
 {
     let c = code as usize;
     let kind = c / 4 % 16;
     let width = c / 64;
     let turn = c % 4;
-    if turn == 0 {
-        return Code::Refused(3);
+    if turn == 0 || kind == 15 || (!is_wide(kind) && width != 0) {
+        return Err(Refusal::Code);
     }
-    if kind == 15 {
-        return Code::Refused(3);
-    }
-    if is_wide(kind) {
-        return Code::Taken(Move { kind, width, turn });
-    }
-    if width != 0 {
-        return Code::Refused(3);
-    }
-    Code::Taken(Move { kind, width, turn })
+    Ok(Move { kind, width, turn })
 }
 
 // Whether a width is outside the range low to high.
+#[tactic(auto, unfolding(crate::specs::Code::outside))]
 pub fn is_outside(low: usize, high: usize, width: usize) -> bool
     ensures { result ≡ outside low high width }
 {
@@ -124,6 +96,7 @@ pub fn is_outside(low: usize, high: usize, width: usize) -> bool
 }
 
 // A code without its turn: kind and width in one number.
+#[tactic(auto, unfolding(crate::specs::Code::move_of))]
 fn without_turn(c: MoveCode) -> MoveCode
     ensures { result ≡ (move_of c).width * 16 + (move_of c).kind }
 {
@@ -131,6 +104,7 @@ fn without_turn(c: MoveCode) -> MoveCode
 }
 
 // Whether two neighbours join: they have equal kind and width. The search never makes two such moves in a row.
+#[tactic(auto, using(crate::proofs::CodeLaws::joins_is))]
 pub fn do_join(a: MoveCode, b: MoveCode) -> bool
     ensures { result ≡ joins a b }
 {
@@ -138,6 +112,7 @@ pub fn do_join(a: MoveCode, b: MoveCode) -> bool
 }
 
 // The turn of a code.
+#[tactic(auto, unfolding(crate::specs::Code::move_of))]
 pub fn turn_of(code: MoveCode) -> MoveCode
     ensures { result ≡ (move_of code).turn }
 {
@@ -145,6 +120,7 @@ pub fn turn_of(code: MoveCode) -> MoveCode
 }
 
 // The same kind and width in another turn.
+#[tactic(auto, using(crate::proofs::CodeLaws::turned_is))]
 pub fn with_turn(code: MoveCode, turn: MoveCode) -> MoveCode
     requires { turn ≤ 3 }
     ensures { result ≡ turned_to code turn }
@@ -156,35 +132,27 @@ pub fn with_turn(code: MoveCode, turn: MoveCode) -> MoveCode
 fn is_bad_width(low: usize, high: usize, m: Move) -> bool
     ensures { result ≡ bad_width_in low high m }
 {
-    let kind = m.kind;
-    let width = m.width;
-    if is_wide(kind) {
-        return is_outside(low, high, width);
-    }
-    false
+    is_wide(m.kind) && is_outside(low, high, m.width)
 }
 
-// The lowest refusal in a list whose wide widths are low to high, 0 for none: 3 anywhere beats 5 anywhere.
-pub fn refusal_in(low: usize, high: usize, list: &[MoveCode]) -> u8
-    ensures { result ≡ refusal_in low high list.now }
+// The lowest refusal in a list whose wide widths are low to high: a code that is none anywhere beats a bad width anywhere.
+pub fn check_moves_in(low: usize, high: usize, list: &[MoveCode]) -> Result<(), Refusal>
+    ensures { result ≡ done (refusal_in low high list.now) }
 {
-    let mut number: u8 = 0;
-    let mut i = 0;
-    while i < list.len() {
-        let Code::Taken(m) = read_code(list[i]) else {
-            return 3;
-        };
+    let mut answer = Ok(());
+    for &code in list {
+        let m = read_code(code)?;
         if is_bad_width(low, high, m) {
-            number = 5;
+            answer = Err(Refusal::Width);
         }
-        i += 1;
     }
-    number
+    answer
 }
 
 // The refusal of a list that is applied, simplified, inverted or searched with.
-pub fn list_refusal(n: usize, list: &[MoveCode]) -> u8
-    ensures { result ≡ list_refusal n list.now }
+#[tactic(auto, unfolding(crate::specs::Code::refusal_in, crate::specs::Code::list_refusal))]
+pub fn check_moves(n: usize, list: &[MoveCode]) -> Result<(), Refusal>
+    ensures { result ≡ done (list_refusal n list.now) }
 {
-    refusal_in(1, n, list)
+    check_moves_in(1, n, list)
 }

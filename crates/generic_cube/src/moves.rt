@@ -1,11 +1,13 @@
 ghost use Rattle.std.specs.Prelude.{◌≡◌, [], ◌∷◌, ◌<◌, ◌≤◌, ◌+◌, ◌*◌, length};
 ghost use Rattle.ground.specs.Lists.{up_from};
 ghost use Rattle.ground.specs.Inner.{Put};
+ghost use Rattle.generic_cube.specs.Answers.{done};
 ghost use Rattle.generic_cube.specs.AllMoves.{widths_of, turns_of, moves_of, all_refusal, AllMovesResult};
 ghost use Rattle.generic_cube.specs.Inner.{Kinds};
 
-use crate::{Answer, Move};
+use crate::Move;
 use ground::codes::MoveCode;
+use ground::refusals::Refusal;
 
 // The kinds in the source's two loops.
 const FACES: [usize; 6] = [0, 3, 2, 1, 5, 4];
@@ -25,12 +27,10 @@ fn put_widths(
     ensures { Put out.old start (widths_of (up_from first count) kind turn) out.new result }
 {
     let mut at = start;
-    let mut i: usize = 0;
-    while i < count {
+    for i in 0..count {
         let width = first + i;
         out[at] = crate::code_of(Move { kind, width, turn });
         at += 1;
-        i += 1;
     }
     at
 }
@@ -41,10 +41,8 @@ fn put_turns(out: &mut [MoveCode], start: usize, kind: usize, first: usize, coun
     ensures { Put out.old start (turns_of (up_from first count) kind) out.new result }
 {
     let mut at = start;
-    let mut i: usize = 0;
-    while i < 3 {
+    for i in 0..3 {
         at = put_widths(out, at, kind, i + 1, first, count);
-        i += 1;
     }
     at
 }
@@ -61,34 +59,30 @@ fn put_kinds(
     ensures { Put out.old start (moves_of kinds.now (up_from first count)) out.new result }
 {
     let mut at = start;
-    let mut i: usize = 0;
-    while i < kinds.len() {
-        at = put_turns(out, at, kinds[i], first, count);
-        i += 1;
+    for &kind in kinds {
+        at = put_turns(out, at, kind, first, count);
     }
     at
 }
 
-fn all_refusal(n: usize, room: usize) -> u8
-    ensures { result ≡ all_refusal n room }
+#[tactic(auto, using(crate::proofs::CodeLaws::sized_bounds, crate::proofs::AllMovesLaws::length_all), unfolding(crate::specs::AllMoves::all_refusal, ground::specs::Refusals::lowest))]
+fn check_all(n: usize, room: usize) -> Result<(), Refusal>
+    ensures { result ≡ done (all_refusal n room) }
 {
-    if crate::is_size(n) {
-        if room < 18 + 18 * (n / 2) {
-            return 6;
-        }
-        return 0;
+    if !crate::is_size(n) {
+        return Err(Refusal::Size);
     }
-    1
+    if room < 18 + 18 * (n / 2) {
+        return Err(Refusal::Room);
+    }
+    Ok(())
 }
 
 // All moves of a size, in the source's order.
-pub fn all_moves(n: usize, out: &mut [MoveCode]) -> Answer
+pub fn all_moves(n: usize, out: &mut [MoveCode]) -> Result<usize, Refusal>
     ensures { AllMovesResult n out.old out.new result }
 {
-    let number = all_refusal(n, out.len());
-    if number != 0 {
-        return Answer::Refused(number);
-    }
+    check_all(n, out.len())?;
     let faces = put_kinds(out, 0, &FACES, 0, 1);
-    Answer::Value(put_kinds(out, faces, &WIDES, 1, n / 2))
+    Ok(put_kinds(out, faces, &WIDES, 1, n / 2))
 }

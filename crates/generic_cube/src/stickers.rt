@@ -1,48 +1,33 @@
-ghost use Rattle.std.specs.Prelude.{◌≡◌};
+ghost use Rattle.std.specs.Prelude.{◌≡◌, ◌==◌, position};
+ghost use Rattle.generic_cube.specs.Sizes.{letters};
 ghost use Rattle.generic_cube.specs.Answers.{answer};
-ghost use Rattle.generic_cube.specs.StickerIndex.{face_number, sticker_refusal, sticker_index};
+ghost use Rattle.generic_cube.specs.StickerIndex.{sticker_refusal, sticker_index};
 
-use crate::Answer;
+use ground::refusals::Refusal;
 
-// The letters of the faces in their order: U R F D L B.
-pub const LETTERS: [u8; 6] = [85, 82, 70, 68, 76, 66];
+// The letters of the faces in their order.
+pub const LETTERS: [u8; 6] = *b"URFDLB";
 
-// The place of a letter among the six, 6 for any other byte.
-pub fn face_number(face: u8) -> usize
-    ensures { result ≡ face_number face }
+// The place of a letter among the six, none for any other byte.
+pub fn face_number(face: u8) -> Option<usize>
+    ensures { result ≡ position (λ x. x == face) letters }
 {
-    let mut k: usize = 0;
-    while k < 6 {
-        if LETTERS[k] == face {
-            return k;
-        }
-        k += 1;
-    }
-    k
-}
-
-fn sticker_refusal(n: usize, face: u8, index: usize) -> u8
-    ensures { result ≡ sticker_refusal n face index }
-{
-    if crate::is_size(n) {
-        if face_number(face) == 6 {
-            return 10;
-        }
-        if crate::is_outside(1, n * n, index) {
-            return 10;
-        }
-        return 0;
-    }
-    1
+    LETTERS.iter().position(|&letter| letter == face)
 }
 
 // The index of the sticker that is number `index` of a face.
-pub fn sticker_index(n: usize, face: u8, index: usize) -> Answer
+#[tactic(auto, using(crate::proofs::StickerLaws::found, crate::proofs::StickerLaws::not_found, crate::proofs::CodeLaws::sized_bounds), unfolding(crate::specs::StickerIndex::sticker_refusal, ground::specs::Refusals::lowest, crate::specs::StickerIndex::sticker_index))]
+pub fn sticker_index(n: usize, face: u8, index: usize) -> Result<usize, Refusal>
     ensures { result ≡ answer (sticker_refusal n face index) (sticker_index n face index) }
 {
-    let number = sticker_refusal(n, face, index);
-    if number != 0 {
-        return Answer::Refused(number);
+    if !crate::is_size(n) {
+        return Err(Refusal::Size);
     }
-    Answer::Value(face_number(face) * n * n + index - 1)
+    let Some(place) = face_number(face) else {
+        return Err(Refusal::Index);
+    };
+    if crate::is_outside(1, n * n, index) {
+        return Err(Refusal::Index);
+    }
+    Ok(place * n * n + index - 1)
 }

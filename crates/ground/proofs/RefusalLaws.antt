@@ -9,6 +9,8 @@ use mathlib.Core.List.{List, [], ◌∷◌, ◌++◌, Memᴰ}
 use native.Mathlib.Omega.{arith}
 use lib.Dec.{leb}
 use borrow.Author.Tests.{leb-true}
+use Rattle.std.specs.Prelude.{Result, Ok, Err}
+use Rattle.std.specs.Result.{IsErrAnd}
 use Rattle.ground.specs.Choice.{pick}
 use Rattle.ground.specs.Refusals.{Row, lowest}
 use Rattle.ground.proofs.ChoiceLaws.{bool_cases}
@@ -105,3 +107,8 @@ lowest_least k (r ∷ rows) o x m a =
     least j (y ∷ rest) q w =
         let h = ordered_head j y rest q in
         ⊎_elim (λ (e : x ≡ y). omega (arith, h.0, ap (λ (v : Row). v.number) e)) (λ v. omega (arith, h.0, least y.number rest h.1 v)) (Memᴰ.cases_cons w)
+
+-- WHAT `?` PASSES ON
+pub passed_on : {A E : Type 0} {e : E} (r : Result A E) → IsErrAnd r (λ y. y ≡ e) → r ≡ Err e
+passed_on (Err y) p = ap Err p
+passed_on (Ok x) p = absurd p

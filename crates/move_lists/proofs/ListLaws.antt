@@ -15,7 +15,7 @@ use Rattle.generic_cube.specs.Sizes.{sized}
 use Rattle.generic_cube.specs.Code.{move_of, code_of, with_turn, refusal_in, list_rows, list_refusal}
 use Rattle.generic_cube.proofs.AnswerLaws.{answer_value_lem}
 use Rattle.generic_cube.proofs.CodeLaws.{Good, AllGood, taken_good, code_bounds, code_width, turn_most, good_move}
-use Rattle.generic_cube.specs.declared.Answer.TheVariants.{Value}
+use Rattle.std.specs.Prelude.{Ok}
 use Rattle.move_lists.specs.Lists.{simplify, Turned, inverse_of, inverse, same_rows, same_refusal, SimplifyResult, InvertResult}
 use Rattle.move_lists.specs.Inner.{Shrunk}
 
@@ -46,7 +46,7 @@ turned_at (c ∷ cs) (suc i) t h = turned_at cs i t.1 (omega arith)
 -- the stack, then zeros over the part of the output that is left of the input's length
 pub simplify-done : (n : ℕ) {cs out mid zs : List ℕ} {k : ℕ} → same_refusal n cs (length out) ≡ 0 → length mid ≡ length out → Shrunk cs out mid k
     → zs ≡ replicate (length (take (length cs - k) (drop k mid))) 0
-    → SimplifyResult n cs out (take k mid ++ (zs ++ drop (length cs - k) (drop k mid))) (Value k)
+    → SimplifyResult n cs out (take k mid ++ (zs ++ drop (length cs - k) (drop k mid))) (Ok k)
 simplify-done n {cs} {out} {mid} {zs} {k} g l s w =
     let f = (fitting n cs (length out) g).fits in
     let most = s.most in
@@ -88,7 +88,7 @@ pub inverse-next : (cs : List ℕ) {j v : ℕ} → Turned cs → j < length cs
 inverse-next cs {j} t h e = e (turned_at cs (length cs - 1 - j) t (omega arith)) ∙ sym (get_d_inverse cs j h)
 
 pub invert_done : (n : ℕ) (cs : List ℕ) {out new : List ℕ} → same_refusal n cs (length out) ≡ 0 → new ≡ sets out 0 (inverse cs)
-    → InvertResult n cs out new (Value (length cs))
+    → InvertResult n cs out new (Ok (length cs))
 invert_done n cs {out} g w =
     let l = length-inverse cs in
     let r : 0 + length (inverse cs) ≤ length out = omega (arith, (fitting n cs (length out) g).fits) in

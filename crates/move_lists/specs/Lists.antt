@@ -1,12 +1,12 @@
 -- Lists of codes: simplifying and inverting.
-use Rattle.std.specs.Prelude.{ℕ, ◌+◌, ◌-◌, ◌%◌, ◌<◌, ◌≡◌, true, false, not, List, [], ◌∷◌, ◌++◌, length, replicate, eqb, ltb}
+use Rattle.std.specs.Prelude.{ℕ, ◌+◌, ◌-◌, ◌%◌, ◌<◌, ◌≡◌, true, false, not, List, [], ◌∷◌, ◌++◌, length, replicate, Result, eqb, ltb}
 use Rattle.ground.specs.Choice.{pick}
 use Rattle.ground.specs.Lists.{over}
 use Rattle.ground.specs.Refusals.{Row, ◌when◌, lowest}
 use Rattle.generic_cube.specs.Sizes.{sized}
 use Rattle.generic_cube.specs.Answers.{AnswerWith}
 use Rattle.generic_cube.specs.Code.{code_of, move_of, turned_to, back, joins, list_rows}
-use Rattle.generic_cube.specs.declared.Answer.{Answer}
+use Rattle.ground.specs.declared.refusals.Refusal.{Refusal}
 
 -- ---- simplifying
 
@@ -78,11 +78,11 @@ unfoldable pub same_refusal : ℕ → List ℕ → ℕ → ℕ
 same_refusal n cs room = lowest (same_rows n cs room)
 
 -- what `simplify_moves` answers and leaves in its output: zeros up to the input's length, what lies after stays
-abbrev pub SimplifyResult : ℕ → List ℕ → List ℕ → List ℕ → Answer → Type 0
+abbrev pub SimplifyResult : ℕ → List ℕ → List ℕ → List ℕ → Result ℕ Refusal → Type 0
 SimplifyResult n cs out out' r =
     AnswerWith (same_refusal n cs (length out)) (length (simplify cs)) (over (simplify cs ++ replicate (length cs - length (simplify cs)) 0) out)
     out out' r
 
 -- what `invert_moves` answers and leaves in its output
-abbrev pub InvertResult : ℕ → List ℕ → List ℕ → List ℕ → Answer → Type 0
+abbrev pub InvertResult : ℕ → List ℕ → List ℕ → List ℕ → Result ℕ Refusal → Type 0
 InvertResult n cs out out' r = AnswerWith (same_refusal n cs (length out)) (length cs) (over (inverse cs) out) out out' r

@@ -3,28 +3,26 @@
 
 ghost use Rattle.std.specs.Prelude.{◌≡◌, ◌<◌, ◌≤◌, length};
 ghost use Rattle.std.proofs.lemmas.List.Edits.{sets};
+ghost use Rattle.generic_cube.specs.Answers.{done};
 ghost use Rattle.generic_cube.specs.Code.{move_of};
 ghost use Rattle.move_lists.specs.Lists.{Turned, inverse_of, inverse, same_refusal, SimplifyResult, InvertResult};
 ghost use Rattle.move_lists.specs.Inner.{Pushable, Pushed, Shrunk};
 
-use generic_cube::Answer;
 use ground::codes::MoveCode;
+use ground::refusals::Refusal;
 
-// The refusal of a list whose answer needs as much room as itself, 0 for none.
-fn same_refusal(n: usize, list: &[MoveCode], room: usize) -> u8
-    ensures { result ≡ same_refusal n list.now room }
+// The refusal of a list whose answer needs as much room as itself.
+fn check_same(n: usize, list: &[MoveCode], room: usize) -> Result<(), Refusal>
+    ensures { result ≡ done (same_refusal n list.now room) }
 {
-    if generic_cube::is_size(n) {
-        let number = generic_cube::list_refusal(n, list);
-        if number != 0 {
-            return number;
-        }
-        if room < list.len() {
-            return 6;
-        }
-        return 0;
+    if !generic_cube::is_size(n) {
+        return Err(Refusal::Size);
     }
-    1
+    generic_cube::check_moves(n, list)?;
+    if room < list.len() {
+        return Err(Refusal::Room);
+    }
+    Ok(())
 }
 
 // One more code on a stack in which nothing joins, the first k of `out`.
@@ -54,27 +52,21 @@ fn stack(list: &[MoveCode], out: &mut [MoveCode]) -> usize
     requires { (length list.now ≤ length out.old) × Turned list.now }
     ensures { Shrunk list.now out.old out.new result }
 {
-    let mut k: usize = 0;
-    let mut i = 0;
-    while i < list.len() {
-        k = push(out, k, list[i]);
-        i += 1;
+    let mut k = 0;
+    for &code in list {
+        k = push(out, k, code);
     }
     k
 }
 
 // Joins neighbours until none join.
-pub fn simplify_moves(n: usize, list: &[MoveCode], out: &mut [MoveCode]) -> Answer
+pub fn simplify_moves(n: usize, list: &[MoveCode], out: &mut [MoveCode]) -> Result<usize, Refusal>
     ensures { SimplifyResult n list.now out.old out.new result }
 {
-    let number = same_refusal(n, list, out.len());
-    if number != 0 {
-        return Answer::Refused(number);
-    }
+    check_same(n, list, out.len())?;
     let count = stack(list, out);
-    let end = list.len();
-    ground::codes::clear(&mut out[count..end]);
-    Answer::Value(count)
+    out[count..list.len()].fill(0);
+    Ok(count)
 }
 
 // The turn t, which is not 0, becomes 4 - t.
@@ -88,21 +80,16 @@ fn invert_into(list: &[MoveCode], out: &mut [MoveCode])
     requires { (length list.now ≤ length out.old) × Turned list.now }
     ensures { out.new ≡ sets out.old 0 (inverse list.now) }
 {
-    let mut j = 0;
-    while j < list.len() {
+    for j in 0..list.len() {
         out[j] = inverse_code(list[list.len() - 1 - j]);
-        j += 1;
     }
 }
 
 // The moves that undo a list's.
-pub fn invert_moves(n: usize, list: &[MoveCode], out: &mut [MoveCode]) -> Answer
+pub fn invert_moves(n: usize, list: &[MoveCode], out: &mut [MoveCode]) -> Result<usize, Refusal>
     ensures { InvertResult n list.now out.old out.new result }
 {
-    let number = same_refusal(n, list, out.len());
-    if number != 0 {
-        return Answer::Refused(number);
-    }
+    check_same(n, list, out.len())?;
     invert_into(list, out);
-    Answer::Value(list.len())
+    Ok(list.len())
 }

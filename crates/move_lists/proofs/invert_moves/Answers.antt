@@ -1,20 +1,24 @@
 -- `invert_moves`: stored in order, where nothing is refused.
-use mathlib.Core.Path.{◌≡◌, sym, ◌∙◌}
+use mathlib.Core.Path.{◌≡◌}
 use lib.ListN.{length}
+use Rattle.ground.proofs.RefusalLaws.{passed_on}
+use Rattle.generic_cube.proofs.AnswerLaws.{done_number, answer_refused}
 use Rattle.move_lists.specs.Lists.{same_refusal}
 use Rattle.move_lists.proofs.ListLaws.{fitting, fitting_turned, invert_done}
 use Rattle.move_lists.proofs.invert_moves.Goals as goal
-use Rattle.move_lists.proofs.invert_moves.Goals.{Else-number-ne0}
+use Rattle.move_lists.proofs.invert_moves.Goals.{In_ok-check_same}
 
 -- nothing is refused
-good : (c : Else-number-ne0) → same_refusal c.args.n c.args.list.now (length c.args.out.now) ≡ 0
-good c =
-    sym c.same_refusal-number.ensures ∙ c.if-number-ne0.false
+good : (c : In_ok-check_same) → same_refusal c.args.n c.args.list.now (length c.args.out.now) ≡ 0
+good c = done_number _ c.in_ok-check_same.ensures
+
+pub returns-in_err-check_same : goal.returns-in_err-check_same
+returns-in_err-check_same c = rw (passed_on _ c.from_residual.ensures.1) (answer_refused _ _ c.in_err-check_same.ensures)
 
 pub invert_into-requires : goal.invert_into-requires
 invert_into-requires c =
-    let g = fitting _ _ _ (good (goal.at.invert_into-requires c).Else-number-ne0) in (g.fits, fitting_turned g)
+    let g = fitting _ _ _ (good (goal.at.invert_into-requires c).In_ok-check_same) in (g.fits, fitting_turned g)
 
 pub returns : goal.returns
 returns c =
-    invert_done _ _ (good (goal.at.returns c).Else-number-ne0) c.invert_into.ensures
+    invert_done _ _ (good (goal.at.returns c).In_ok-check_same) c.invert_into.ensures

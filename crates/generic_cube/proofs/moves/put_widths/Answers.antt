@@ -1,5 +1,4 @@
 -- `put_widths`: the first i widths are stored.
-use Rattle.generic_cube.specs.Code.{code_of}
 use Prim.Native.Nat.{◌+◌, ◌≤◌}
 use mathlib.Core.Path.{refl, sym}
 use lib.ListN.{length}
