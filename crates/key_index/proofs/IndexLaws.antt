@@ -34,9 +34,6 @@ class_most s = omega arith
 abbrev pub Full : List ℕ → ℕ → ℕ → Type 0
 Full index at p = (j : ℕ) → at ≤ j → j < p → get_or index j 0 ≡ 0 → ⊥
 
-pub probe_more : (P : ℕ → Type 0) (at p : ℕ) → ((j : ℕ) → at ≤ j → j < p → P j) → P p → (j : ℕ) → at ≤ j → j < p + 1 → P j
-probe_more P at p f x j g h = below_more (λ (k : ℕ). at ≤ k → P k) p (λ k lt le. f k le lt) (λ le. x) j h g
-
 -- the run may be named otherwise
 pub free_at : {index : List ℕ} {a b p : ℕ} → a ≡ b → Free index a p → Free index b p
 free_at e f = rw e at f
@@ -122,19 +119,6 @@ module _ {m count : ℕ} {t index : List ℕ} {k : Classes} (t' s : List ℕ) (p
         kept = below_more (λ (i : ℕ). OfClasses k (entry_key m t' i) → Filed (set index p (count + 1)) (entry_key m t' i) i) count put_old
             (λ w. rw new put_new);
       }
-
--- none is in an empty index
-pub index_none : {m : ℕ} {t index : List ℕ} {k : Classes} → Empty index → Indexed m 0 t index k
-index_none {index = index} x =
-    record {
-      some = x.some;
-      few = x.few;
-      within = λ j.
-          less_cases j (length index)
-          (λ h. omega (arith, ap (λ (l : List ℕ). get_or l j 0) x.clear ∙ get_or-replicate (length index) j 0 0 h))
-          (λ h. omega (arith, get_or-eq_default index 0 {n = j} h));
-      kept = λ i lt w. absurd (omega arith);
-    }
 
 -- what comes of probing the run of a key
 pub sought_probed : {m count : ℕ} {t index : List ℕ} {k : Classes} (s : List ℕ) (r : Found) → k.plain ≡ false → Indexed m count t index k → OfClasses k s

@@ -195,9 +195,6 @@ pub record Halved (k : ℕ → List ℕ) (n : ℕ) (s : List ℕ) (low span : �
   pub before : (i : ℕ) → i < low → order_of (k i) s ≡ Less
   pub after : (i : ℕ) → low + span ≤ i → i < n → order_of s (k i) ≡ Less
 
-pub halved_all : (k : ℕ → List ℕ) (n : ℕ) (s : List ℕ) → Halved k n s 0 n
-halved_all k n s = record { most = omega arith; before = λ i lt. absurd (omega arith); after = λ i ge lt. absurd (omega arith) }
-
 module _ {k : ℕ → List ℕ} {n : ℕ} {s : List ℕ} {low span : ℕ} (up : Rising k n) (h : Halved k n s low span) (half : ℕ) (lt : half < span) where
   pub half_less : order_of (k (low + half)) s ≡ Less → Halved k n s (low + half + 1) (span - (half + 1))
   unfolding Rising

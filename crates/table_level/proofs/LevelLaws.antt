@@ -214,22 +214,6 @@ pub stretched_pass : {m e : ℕ} {New : List ℕ → Type 0} {t₀ t : List ℕ}
 stretched_pass w (crowded v p) = crowded (widen_two w v) p
 stretched_pass w (full o) = full (outgrown_on w o)
 
--- filing before a pass: plainly there is nothing to file
-pub passing_files : {m count size : ℕ} {t : List ℕ} {k : Classes} → Passing m count t size k → k.plain ≡ false → Filing m count t
-passing_files p e = record { room = p.room; few = omega (arith, p.room, p.few e) }
-
-pub emptied : (index : List ℕ) {index' : List ℕ} → index' ≡ replicate (length index) 0 → run_length < length index → length index < 4294967296 → Empty index'
-emptied index {index'} e h g =
-    let l : length index' ≡ length index = ap length e ∙ length-replicate (length index) 0 in
-    record { clear = e ∙ ap (λ (k : ℕ). replicate k 0) (sym l); some = omega arith; few = omega arith }
-
-pub empty_made : (k : ℕ) → run_length < k → k < 4294967296 → Empty (replicate k 0)
-empty_made k h g = let l = length-replicate {A = ℕ} k 0 in record { clear = ap (λ (j : ℕ). replicate j 0) (sym l); some = omega arith; few = omega arith }
-
-module _ {m count size : ℕ} {t index : List ℕ} {k : Classes} (p : Passing m count t size k) where
-  pub refiled_plain : k.plain ≡ true → Tracking m count t index k
-  refiled_plain e = record { room = p.room; few = p.few; filed = λ f. absurd (true≢false (sym e ∙ f)) }
-
 -- entering a key: it is there, or of another class; there is no room; it is new
 module _ {m e count : ℕ} {s t : List ℕ} {k : Classes} where
   pub enter_stay : {index : List ℕ} → Tracking m count t index k → Entered m k s t count → Stretched m e (λ r. r ≡ s) t count k (Entered m k s) t index (Ok count)
@@ -256,11 +240,8 @@ module _ {m e count : ℕ} {s t : List ℕ} {k : Classes} where
 abbrev pub FannedTo : ℕ → List ℕ → Classes → List ℕ → ℕ → List ℕ → ℕ → Type 0
 FannedTo n moves k cube i t c = (j : ℕ) → 0 ≤ j → j < i → Entered (stickers n) k (moved_by n (get_or moves j 0) cube) t c
 
--- none of them, one more, all
+-- one more of them, and all
 module _ {n e : ℕ} {moves t₀ : List ℕ} (cube : List ℕ) {count₀ : ℕ} {k : Classes} where
-  pub fan_none : {index : List ℕ} → Tracking (stickers n) count₀ t₀ index k → Going (stickers n) e (LeadsTo n moves cube) t₀ count₀ k (FannedTo n moves k cube 0) t₀ index count₀
-  fan_none x = record { widened = widen_none x.room; tracking = x; done = λ j a b. absurd (omega arith) }
-
   pub fan_more : {t t' index index' : List ℕ} {count count' i : ℕ} → Going (stickers n) e (LeadsTo n moves cube) t₀ count₀ k (FannedTo n moves k cube i) t index count
       → Going (stickers n) e (LeadsTo n moves cube) t count k (Entered (stickers n) k (moved_by n (get_or moves i 0) cube)) t' index' count'
       → Going (stickers n) e (LeadsTo n moves cube) t₀ count₀ k (FannedTo n moves k cube (i + 1)) t' index' count'
@@ -304,18 +285,10 @@ module _ {n e : ℕ} {starts moves t : List ℕ} {at : ℕ} {s : List ℕ} where
   pub due_later : (e ≡ 0 → ⊥) → LeadsTo n moves (entry_key (stickers n) t at) s → Due n starts moves e t at s
   due_later f l = record { first = λ z. absurd (f z); later = λ g. l }
 
--- starting cube i lies within the starts, and is the part of them that is read
+-- starting cube i is the part of the starts that is read
 module _ (m i : ℕ) (starts : List ℕ) (some : 0 < m) (h : i < length starts / m) where
-  pub start_fits : i * m + m ≤ length starts
-  start_fits =
-      let q : suc i * m ≤ length starts = (le-div_iff_mul-le {k = m} {x = suc i} some).0 h in
-      omega (arith, suc-mul i m)
-
   pub start_is : take (i * m + m - i * m) (drop (i * m) starts) ≡ take m (drop (i * m) starts)
   start_is = let e : i * m + m - i * m ≡ m = omega arith in ap (λ (k : ℕ). take k (drop (i * m) starts)) e
-
-  pub start_long : length (take (i * m + m - i * m) (drop (i * m) starts)) ≡ m
-  start_long = ap length start_is ∙ length-take-le m (drop (i * m) starts) (omega (arith, start_fits, length-drop (i * m) starts))
 
 -- so entering it, or fanning the entry out, is what was due
 module _ {n e at : ℕ} (starts moves : List ℕ) {t : List ℕ} {count : ℕ} {k : Classes} {t' index : List ℕ} {r : Result ℕ Halt} where
@@ -344,27 +317,13 @@ module _ {n e e' : ℕ} {starts moves : List ℕ} {New : List ℕ → Type 0} {t
 pub placed_on : {n e : ℕ} {starts : List ℕ} {count count' append_last : ℕ} → count ≤ count' → SourcesThere n e starts count append_last → SourcesThere n e starts count' append_last
 placed_on h p = record { first = p.first; later = λ q. omega (arith, p.later q) }
 
-pub placed_at : {n e : ℕ} {starts : List ℕ} {count append_last at : ℕ} → at < append_last → SourcesThere n e starts count append_last → SourcesThere n e starts count (at + 1)
-placed_at h p = record { first = λ q. omega (arith, p.first q); later = λ q. omega (arith, p.later q) }
-
 -- what is due for a place was so from the start
 pub sweep_due : {n e from append_last : ℕ} {starts moves : List ℕ} {New : List ℕ → Type 0} {t₀ t : List ℕ} {count₀ count at : ℕ} → SourcesThere n e starts count₀ append_last
     → Widened (stickers n) e New t₀ count₀ t count → from ≤ at → at < append_last → (s : List ℕ) → Due n starts moves e t at s → Sourced n starts moves e from append_last t₀ s
 sweep_due {at = at} p w a b s d = record { at = at; low = a; high = b; due = due_back w p b d }
 
--- they are no more than the starting bytes or the entries
-pub placed_most : {n e : ℕ} (starts : List ℕ) {count append_last : ℕ} (most : ℕ) → SourcesThere n e starts count append_last → length starts ≤ most → count ≤ most → append_last ≤ most
-placed_most {n} {e} starts most p a b =
-    bool_cases (eqb e 0)
-    (λ q. omega (arith, p.first (eqb-true e 0 q), div-le_self (length starts) (stickers n)))
-    (λ q. omega (arith, p.later (eqb-false e 0 q)))
-
--- the places of a stage: none, one more, all of them
+-- the places of a stage: one more, all of them
 module _ {n e from append_last : ℕ} {starts moves t₀ : List ℕ} {count₀ : ℕ} {k : Classes} where
-  pub sweep_none : {index : List ℕ} → Tracking (stickers n) count₀ t₀ index k
-      → Going (stickers n) e (Sourced n starts moves e from append_last t₀) t₀ count₀ k (Swept n starts moves k e from from) t₀ index count₀
-  sweep_none x = record { widened = widen_none x.room; tracking = x; done = λ at a b. absurd (omega arith) }
-
   pub sweep_more : {t t' index index' : List ℕ} {count count' at : ℕ} → SourcesThere n e starts count₀ append_last → from ≤ at → at < append_last
       → Going (stickers n) e (Sourced n starts moves e from append_last t₀) t₀ count₀ k (Swept n starts moves k e from at) t index count
       → Going (stickers n) e (Due n starts moves e t at) t count k (SourceVisited n starts moves k e at) t' index' count'
@@ -406,9 +365,6 @@ pub record Climbed (n : ℕ) (starts moves : List ℕ) (stage : Stage) (t₀ t :
   pub done : (s : List ℕ) → Source n starts moves stage t s → class_of s < low → Present (entry_key (stickers n) t) count s
 
 module _ {n : ℕ} {starts moves t₀ : List ℕ} {stage : Stage} where
-  pub climb_none : stage.count ≤ entry_count (stickers n) t₀ → Climbed n starts moves stage t₀ t₀ stage.count 0
-  climb_none h = record { widened = widen_none h; done = λ s x lt. absurd (omega arith) }
-
   module _ (p : SourcesThere n stage.number starts stage.count stage.last) {t : List ℕ} {count low : ℕ} (g : Climbed n starts moves stage t₀ t count low)
       {t' : List ℕ} {c : ℕ} (w : Widened (stickers n) stage.number (Source n starts moves stage t) t count t' c) where
     -- what is due now was due from the start, and what will be due is due now
@@ -440,8 +396,3 @@ module _ {n : ℕ} {starts moves t₀ : List ℕ} {stage : Stage} where
   pub levelled_over : {t t' : List ℕ} {count low : ℕ} → SourcesThere n stage.number starts stage.count stage.last → Climbed n starts moves stage t₀ t count low
       → Outgrown (stickers n) stage.number (Source n starts moves stage t) t count t' → Levelled n starts moves stage t₀ t' None
   levelled_over p g o = outgrown_on g.widened (outgrown_as (λ s x. sweep_due p g.widened x.low x.high s x.due) o)
-
-  pub passing_on : {t : List ℕ} {count low size : ℕ} {k : Classes} → Climbed n starts moves stage t₀ t count low → run_length < size → size < 4294967296
-      → (k.plain ≡ false → entry_count (stickers n) t₀ < 4294967295) → Passing (stickers n) count t size k
-  passing_on g h e f =
-      record { room = g.widened.room; slots = h; size_few = e; few = λ q. subst (λ (j : ℕ). j < 4294967295) (sym (stay_entries g.widened.stayed)) (f q) }

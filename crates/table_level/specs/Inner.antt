@@ -68,6 +68,12 @@ pub record MovesTurn (n : ℕ) (moves : List ℕ) : Type 0 where
   pub size : n ≤ 7
   pub good : list_refusal n moves ≡ 0
 
+-- building a table of that depth
+pub record BuildReady (n depth : ℕ) (moves : List ℕ) : Type 0 where
+  pub turning : MovesTurn n moves
+  pub few : length moves ≤ 255
+  pub shallow : depth ≤ 20
+
 -- a code is one of the candidates
 abbrev pub Candidate : ℕ → List ℕ → Type 0
 Candidate code moves = Memᴰ code moves

@@ -8,7 +8,7 @@ ghost use Rattle.table.specs.Entries.{entry_key};
 ghost use Rattle.table.specs.Inner.{KeyLength, with_entry};
 ghost use Rattle.key_index.specs.InnerIndex.{classes};
 ghost use Rattle.search_theory.specs.CubeSearch.{moved_by};
-ghost use Rattle.table_level.specs.Inner.{entry_of, Tracking, Entered, Stretched, SweepTold, MovesTurn, Candidate, LeadsTo, Fanned, Due, SourcesThere, SourceVisited, Passing, Refiled, Climbing, Levelled, next_stage, outgrown_stage};
+ghost use Rattle.table_level.specs.Inner.{entry_of, Tracking, Entered, Stretched, SweepTold, BuildReady, Candidate, LeadsTo, Fanned, Due, SourcesThere, SourceVisited, Passing, Refiled, Climbing, Levelled, next_stage, outgrown_stage};
 
 use ground::codes::MoveCode;
 use key_index::{CLASSES, Classes, Found, RunFull};
@@ -21,9 +21,7 @@ pub struct Job<'a> {
     pub starts: &'a [u8],
     pub moves: &'a [MoveCode],
     pub depth: u8,
-    ghost turning: { MovesTurn n moves.now },
-    ghost few: { length moves.now ≤ 255 },
-    ghost shallow: { depth ≤ 20 },
+    ghost ready: { BuildReady n depth moves.now },
 }
 
 // Why a stretch of a level comes to no end: a run of the index is full, and so many entries are there; or the slice is full.

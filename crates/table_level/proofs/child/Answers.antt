@@ -18,19 +18,19 @@ use Rattle.table_level.proofs.child.Goals.{In-Ok}
 -- the code is taken apart as its move
 taken : (c : In-Ok) → (c.in-Ok.turn ≡ move_of c.args.code) × Fair c.args.job.n c.in-Ok.turn
 taken c =
-    let w = c.args.job.turning in
+    let w = c.args.job.ready.turning in
     let p = member_place 0 c.requires.0 in
     rw p.is at (list_taken c.args.job.n c.args.job.moves.now w.good w.some p.within (c.in-Ok.ensures ∙ ap read_code (sym p.is)))
 
 pub unreachable-requires : goal.unreachable-requires
 unreachable-requires c =
-    let w = c.args.job.turning in
+    let w = c.args.job.ready.turning in
     let p = member_place 0 c.requires.0 in
     list_reads c.args.job.n c.args.job.moves.now w.good p.within (c.in_default.ensures ∙ ap read_code (sym p.is))
 
 pub compute_permutation-requires : goal.compute_permutation-requires
 compute_permutation-requires c =
-    let w = c.args.job.turning in
+    let w = c.args.job.ready.turning in
     record {
       sized = record { some = w.some; size = omega (arith, w.size) };
       fair = (taken (goal.at.compute_permutation-requires c).In-Ok).1;
