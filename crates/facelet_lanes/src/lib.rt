@@ -9,7 +9,7 @@ ghost use Rattle.facelet_lanes.specs.InnerLanes.{ring_faces, ring_edges, frame_o
 
 // The edges at which lanes start: three rings for each face, four lanes to a ring: the sides, the face, the face opposite. An edge is the
 // number of its face, and 0 for the first row, 1 for the last column, 2 for the last row, 3 for the first column.
-const EDGES: [(u8, u8); 72] = [
+static EDGES: [(usize, usize); 72] = [
     (1, 0),
     (2, 0),
     (4, 0),
@@ -119,8 +119,7 @@ fn edge_at(i: usize) -> (usize, usize)
     ensures face { (result.0 ≡ get_or ring_faces i 0) × (result.0 < 6) }
     ensures edge { (result.1 ≡ get_or ring_edges i 0) × (result.1 < 4) }
 {
-    let edge = EDGES[i];
-    (edge.0 as usize, edge.1 as usize)
+    EDGES[i]
 }
 
 // The corners of a face and the steps along its edges, written down once for the four lanes of a ring.
