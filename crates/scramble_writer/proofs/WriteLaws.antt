@@ -5,10 +5,12 @@ use mathlib.Core.Bool.{true, false}
 use mathlib.Core.List.{List, [], ◌∷◌, ◌++◌}
 use native.Mathlib.Omega.{arith}
 use native.Mathlib.Nat.{zero-add}
-use lib.Dec.{leb}
-use lib.ListN.{length, get_or, take, drop, length-append, length-drop}
-use lib.Seq.{sets-eq, take_all}
+use lib.Dec.{leb, ltb, eqb}
+use lib.ListN.{length, get_or, take, length-append}
+use lib.Seq.{sets-eq}
+use Rattle.std.specs.Prelude.{Result, Ok, Err}
 use borrow.Author.Tests.{eq-eqb, ne_eqb, lt-ltb, le-ltb, lt-leb, le-leb, leb-true, leb-false, ltb-false, not-false}
+use Rattle.ground.specs.declared.refusals.Refusal.{Refusal}
 use Rattle.ground.specs.Lists.{each}
 use Rattle.ground.specs.Inner.{Put}
 use Rattle.ground.proofs.ChoiceLaws.{bool_cases}
@@ -17,28 +19,12 @@ use Rattle.ground.proofs.RefusalLaws.{passed, pass_lowest}
 use Rattle.generic_cube.specs.Sizes.{sized}
 use Rattle.generic_cube.specs.Code.{is_wide, read_code, rows_in, refusal_in}
 use Rattle.generic_cube.specs.declared.Move.{Move}
-use Rattle.generic_cube.specs.declared.Code.{Code}
-use Rattle.generic_cube.specs.declared.Code.TheVariants.{Taken}
-use Rattle.generic_cube.specs.declared.Answer.TheVariants.{Value}
 use Rattle.generic_cube.proofs.AnswerLaws.{answer_value_lem}
 use Rattle.generic_cube.proofs.CodeLaws.{taken, code_bounds, width_most}
 use Rattle.scramble_writer.specs.Write.{kind_byte, mark_text, width_text, token_text, code_text, text_of, rest_text, list_text, write_rows, write_refusal, WriteResult}
 use Rattle.scramble_writer.specs.Inner.{Writable}
 
--- ---- a suffix, and a width, by cases
-
-module _ {t : ℕ} where
-  pub mark_none : t ≡ 1 → mark_text t ≡ []
-  unfolding mark_text
-  mark_none e = rw (eq-eqb t 1 e)
-
-  pub mark_half : (t ≡ 1 → ⊥) → t ≡ 2 → mark_text t ≡ 50 ∷ []
-  unfolding mark_text
-  mark_half n e = rw (ne_eqb t 1 n, eq-eqb t 2 e)
-
-  pub mark_back : (t ≡ 1 → ⊥) → (t ≡ 2 → ⊥) → mark_text t ≡ 39 ∷ []
-  unfolding mark_text
-  mark_back n m = rw (ne_eqb t 1 n, ne_eqb t 2 m)
+-- ---- a width by cases
 
 module _ {w : ℕ} where
   pub width_none : w ≡ 2 → width_text w ≡ []
@@ -80,7 +66,7 @@ put_plain m w p q = rw w (put_then p q)
 
 -- ---- a code: it is read, or it has no text
 
-module _ (c : ℕ) {m : Move} (e : Taken m ≡ read_code c) where
+module _ (c : ℕ) {m : Move} (e : Ok m ≡ read_code c) where
   pub taken_text : text_of c ≡ token_text m
   taken_text = ap code_text (sym e)
 
@@ -90,27 +76,38 @@ module _ (c : ℕ) {m : Move} (e : Taken m ≡ read_code c) where
       let k = code_bounds c t.1 in
       record { room = rw taken_text at f; kind = rw t.0 k.1; width = rw t.0 (omega (arith, width_most c (omega arith))) }
 
-pub refused_text_lem : (c : ℕ) {k : ℕ} → Code.Refused k ≡ read_code c → text_of c ≡ []
-refused_text_lem c e = ap code_text (sym e)
+-- a text of a code has at most six bytes
+mark_most : (t : ℕ) → length (mark_text t) ≤ 1
+unfolding mark_text
+mark_most t =
+    bool_cases (eqb t 1) (λ a. rw a (omega arith)) (λ a. bool_cases (eqb t 2) (λ b. rw (a, b) (omega arith)) (λ b. rw (a, b) (omega arith)))
+
+width_text_most : (w : ℕ) → length (width_text w) ≤ 3
+unfolding width_text
+width_text_most w =
+    bool_cases (eqb w 2) (λ a. rw a (omega arith)) (λ a.
+    bool_cases (ltb w 10) (λ b. rw (a, b) (omega arith)) (λ b.
+    bool_cases (ltb w 100) (λ d. rw (a, b, d) (omega arith)) (λ d. rw (a, b, d) (omega arith))))
+
+token_most : (m : Move) → length (token_text m) ≤ 6
+token_most m =
+    bool_cases (is_wide m.kind)
+    (λ w. omega (arith, wide_length m w, width_text_most m.width, mark_most m.turn))
+    (λ w. omega (arith, plain_length m w, mark_most m.turn))
+
+code_most : (r : Result Move Refusal) → length (code_text r) ≤ 6
+code_most (Ok m) = token_most m
+code_most (Err r) = omega arith
+
+pub text_most : (c : ℕ) → length (text_of c) ≤ 6
+text_most c = code_most (read_code c)
 
 -- ---- the whole text
-
--- the codes behind the first
-abbrev pub tail : List ℕ → List ℕ
-tail cs = take (length cs - 1) (drop 1 cs)
-
-tail-whole : (cs : List ℕ) → tail cs ≡ drop 1 cs
-tail-whole cs = take_all (length cs - 1) (drop 1 cs) (simp length-drop (omega arith))
 
 text_empty : (cs : List ℕ) → length cs ≡ 0 → list_text cs ≡ []
 unfolding list_text
 text_empty [] e = refl
 text_empty (c ∷ cs) e = absurd (omega arith)
-
-text_first : (cs : List ℕ) → (length cs ≡ 0 → ⊥) → list_text cs ≡ text_of (get_or cs 0 0) ++ rest_text (tail cs)
-unfolding list_text
-text_first [] z = absurd (z refl)
-text_first (c ∷ cs) z = ap (λ (l : List ℕ). text_of c ++ rest_text l) (sym (tail-whole (c ∷ cs)))
 
 pub put_empty : (cs : List ℕ) {out : List ℕ} → length cs ≡ 0 → Put out 0 (list_text cs) out 0
 put_empty cs e = rw (text_empty cs e) put_none
@@ -118,22 +115,24 @@ put_empty cs e = rw (text_empty cs e) put_none
 pub fits_empty : (cs : List ℕ) (room : ℕ) → length cs ≡ 0 → leb (length (list_text cs)) room ≡ true
 fits_empty cs room e = rw (text_empty cs e) (le-leb 0 room (omega arith))
 
-module _ (cs : List ℕ) (z : length cs ≡ 0 → ⊥) where
-  pub text_length : length (list_text cs) ≡ length (text_of (get_or cs 0 0)) + length (rest_text (tail cs))
-  text_length = rw (text_first cs z) (length-append (text_of (get_or cs 0 0)) (rest_text (tail cs)))
+module _ {cs rest : List ℕ} {c : ℕ} (e : cs ≡ c ∷ rest) where
+  text_first : list_text cs ≡ text_of c ++ rest_text rest
+  unfolding list_text
+  text_first = rw e
 
-  pub put_text : {out mid new : List ℕ} {a r : ℕ} → Put out 0 (text_of (get_or cs 0 0)) mid a → Put mid a (rest_text (tail cs)) new r
-      → Put out 0 (list_text cs) new r
-  put_text p q = rw (text_first cs z) (put_then p q)
+  pub text_length : length (list_text cs) ≡ length (text_of c) + length (rest_text rest)
+  text_length = rw text_first (length-append (text_of c) (rest_text rest))
 
-  pub fits_short : (room : ℕ) → room < length (text_of (get_or cs 0 0)) → leb (length (list_text cs)) room ≡ false
+  pub put_text : {out mid new : List ℕ} {a r : ℕ} → Put out 0 (text_of c) mid a → Put mid a (rest_text rest) new r → Put out 0 (list_text cs) new r
+  put_text p q = rw text_first (put_then p q)
+
+  pub fits_short : (room : ℕ) → room < length (text_of c) → leb (length (list_text cs)) room ≡ false
   fits_short room h = lt-leb (length (list_text cs)) room (omega (arith, text_length))
 
-  pub fits_rest : (room : ℕ) → length (text_of (get_or cs 0 0)) ≤ room
-      → leb (length (rest_text (tail cs))) (room - length (text_of (get_or cs 0 0))) ≡ leb (length (list_text cs)) room
+  pub fits_rest : (room : ℕ) → length (text_of c) ≤ room → leb (length (rest_text rest)) (room - length (text_of c)) ≡ leb (length (list_text cs)) room
   fits_rest room h =
-      let f = length (text_of (get_or cs 0 0)) in
-      let r = length (rest_text (tail cs)) in
+      let f = length (text_of c) in
+      let r = length (rest_text rest) in
       let l = text_length in
       bool_cases (leb r (room - f))
       (λ t. let q = leb-true r (room - f) t in t ∙ sym (le-leb (length (list_text cs)) room (omega arith)))
@@ -163,11 +162,6 @@ module _ {cs : List ℕ} {room left i : ℕ} (g : Left cs room left i) where
       let m : length (rest_text (take (i + 1) cs)) ≤ length (rest_text cs) = each_most cs (λ c. 32 ∷ text_of c) (i + 1) in
       lt-leb (length (rest_text cs)) room (omega (arith, g.spent, next_text h))
 
-  pub left_all : length cs ≤ i → leb (length (rest_text cs)) room ≡ true
-  left_all h =
-      let e = take_all i cs h in
-      le-leb (length (rest_text cs)) room (omega (arith, rw e at g.spent))
-
 -- ---- the result
 
 pub record WriteFits (n : ℕ) (cs : List ℕ) (room : ℕ) : Type 0 where
@@ -187,7 +181,7 @@ write_fits n cs room e =
     }
 
 pub write_done : (n : ℕ) (cs : List ℕ) {out new : List ℕ} {r : ℕ} → write_refusal n cs (length out) ≡ 0 → Put out 0 (list_text cs) new r
-    → WriteResult n cs out new (Value r)
+    → WriteResult n cs out new (Ok r)
 write_done n cs {out} g p =
     let e = zero-add (length (list_text cs)) in
     let f : 0 + length (list_text cs) ≤ length out = omega (arith, (write_fits n cs (length out) g).fits) in

@@ -1,15 +1,13 @@
 -- The text that the writer makes of a list of codes.
-use Rattle.std.specs.Prelude.{ℕ, ◌+◌, ◌-◌, ◌/◌, ◌%◌, not, List, [], ◌∷◌, ◌++◌, ltb, eqb, length, get_or}
+use Rattle.std.specs.Prelude.{ℕ, ◌+◌, ◌-◌, ◌/◌, ◌%◌, not, List, [], ◌∷◌, ◌++◌, Result, Ok, Err, ltb, eqb, length, get_or}
 use Rattle.ground.specs.Choice.{pick}
 use Rattle.ground.specs.Lists.{each, over}
+use Rattle.ground.specs.declared.refusals.Refusal.{Refusal}
 use Rattle.ground.specs.Refusals.{Row, ◌when◌, lowest}
 use Rattle.generic_cube.specs.Sizes.{sized}
 use Rattle.generic_cube.specs.Answers.{AnswerWith}
 use Rattle.generic_cube.specs.Code.{is_wide, read_code, rows_in}
 use Rattle.generic_cube.specs.declared.Move.{Move}
-use Rattle.generic_cube.specs.declared.Code.{Code}
-use Rattle.generic_cube.specs.declared.Code.TheVariants.{Taken, Refused}
-use Rattle.generic_cube.specs.declared.Answer.{Answer}
 use Rattle.tokens.specs.Token.{kind_letters}
 
 -- the letter of a kind: a wide kind's is its face's
@@ -34,9 +32,9 @@ token_text m =
     (kind_byte m.kind ∷ mark_text m.turn)
 
 -- a code that is refused has no text
-abbrev pub code_text : Code → List ℕ
-code_text (Taken m) = token_text m
-code_text (Refused k) = []
+abbrev pub code_text : Result Move Refusal → List ℕ
+code_text (Ok m) = token_text m
+code_text (Err r) = []
 
 abbrev pub text_of : ℕ → List ℕ
 text_of c = code_text (read_code c)
@@ -57,6 +55,6 @@ unfoldable pub write_refusal : ℕ → List ℕ → ℕ → ℕ
 write_refusal n cs room = lowest (write_rows n cs room)
 
 -- what `write_scramble` answers and leaves in its output
-abbrev pub WriteResult : ℕ → List ℕ → List ℕ → List ℕ → Answer → Type 0
+abbrev pub WriteResult : ℕ → List ℕ → List ℕ → List ℕ → Result ℕ Refusal → Type 0
 WriteResult n cs out out' r =
     AnswerWith (write_refusal n cs (length out)) (length (list_text cs)) (over (list_text cs) out) out out' r

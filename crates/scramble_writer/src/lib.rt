@@ -3,26 +3,27 @@
 
 ghost use Rattle.std.specs.Prelude.{◌≡◌, [], ◌∷◌, ◌<◌, ◌≤◌, ◌+◌, length, leb};
 ghost use Rattle.ground.specs.Inner.{Put};
+ghost use Rattle.generic_cube.specs.Answers.{done};
 ghost use Rattle.scramble_writer.specs.Write.{kind_byte, mark_text, width_text, token_text, text_of, rest_text, list_text, write_refusal, WriteResult};
 ghost use Rattle.scramble_writer.specs.Inner.{Writable};
 
-use generic_cube::{Answer, Code, Move};
+use generic_cube::Move;
 use ground::codes::MoveCode;
+use ground::refusals::Refusal;
 
-// U L F R B D x y z.
-const LETTERS: [u8; 9] = [85, 76, 70, 82, 66, 68, 120, 121, 122];
+const LETTERS: [u8; 9] = *b"ULFRBDxyz";
 
 // The letter of a kind: a wide kind's is its face's.
+#[tactic(auto, unfolding(crate::specs::Write::kind_byte))]
 fn kind_byte(kind: usize) -> u8
     requires { kind < 15 }
     ensures { result ≡ kind_byte kind }
 {
-    if kind < 6 {
-        return LETTERS[kind];
-    }
-    LETTERS[kind - 6]
+    LETTERS[if kind < 6 { kind } else { kind - 6 }]
 }
 
+// Each `put_` writes from `at` on and gives the place behind. A struct of output and place would be no plainer: its contracts would have to say
+// what becomes of the slice that it was lent.
 fn put_byte(out: &mut [u8], at: usize, b: u8) -> usize
     requires { at + 1 ≤ length out.old }
     ensures { Put out.old at (b ∷ []) out.new result }
@@ -38,17 +39,16 @@ fn put_digit(out: &mut [u8], at: usize, d: usize) -> usize
     put_byte(out, at, (48 + d) as u8)
 }
 
+#[tactic(auto, unfolding(crate::specs::Write::mark_text), using(ground::proofs::PutLaws::put_none))]
 fn put_mark(out: &mut [u8], at: usize, turn: usize) -> usize
     requires { at + length (mark_text turn) ≤ length out.old }
     ensures { Put out.old at (mark_text turn) out.new result }
 {
-    if turn == 1 {
-        return at;
+    match turn {
+        1 => at,
+        2 => put_byte(out, at, b'2'),
+        _ => put_byte(out, at, b'\''),
     }
-    if turn == 2 {
-        return put_byte(out, at, 50);
-    }
-    put_byte(out, at, 39)
 }
 
 // A width in decimal, nothing for 2.
@@ -76,28 +76,25 @@ fn put_token(out: &mut [u8], at: usize, m: Move) -> usize
     requires { Writable out.old at m }
     ensures { Put out.old at (token_text m) out.new result }
 {
-    let kind = m.kind;
-    let width = m.width;
-    let turn = m.turn;
-    let letter = kind_byte(kind);
-    if generic_cube::is_wide(kind) {
-        let a = put_width(out, at, width);
+    let letter = kind_byte(m.kind);
+    if generic_cube::is_wide(m.kind) {
+        let a = put_width(out, at, m.width);
         let b = put_byte(out, a, letter);
-        let c = put_byte(out, b, 119);
-        return put_mark(out, c, turn);
+        let c = put_byte(out, b, b'w');
+        return put_mark(out, c, m.turn);
     }
     let a = put_byte(out, at, letter);
-    put_mark(out, a, turn)
+    put_mark(out, a, m.turn)
 }
 
 fn put_code(out: &mut [u8], at: usize, code: MoveCode) -> usize
     requires { at + length (text_of code) ≤ length out.old }
     ensures { Put out.old at (text_of code) out.new result }
 {
-    let Code::Taken(m) = generic_cube::read_code(code) else {
-        return at;
-    };
-    put_token(out, at, m)
+    match generic_cube::read_code(code) {
+        Ok(m) => put_token(out, at, m),
+        Err(_) => at,
+    }
 }
 
 // A space and a token for each code.
@@ -106,11 +103,9 @@ fn put_rest(out: &mut [u8], start: usize, list: &[MoveCode]) -> usize
     ensures { Put out.old start (rest_text list.now) out.new result }
 {
     let mut at = start;
-    let mut i: usize = 0;
-    while i < list.len() {
-        let token = put_byte(out, at, 32);
-        at = put_code(out, token, list[i]);
-        i += 1;
+    for &code in list {
+        let token = put_byte(out, at, b' ');
+        at = put_code(out, token, code);
     }
     at
 }
@@ -120,60 +115,18 @@ fn put_text(list: &[MoveCode], out: &mut [u8]) -> usize
     requires { length (list_text list.now) ≤ length out.old }
     ensures { Put out.old 0 (list_text list.now) out.new result }
 {
-    if list.len() == 0 {
+    let Some((&first, rest)) = list.split_first() else {
         return 0;
-    }
-    let at = put_code(out, 0, list[0]);
-    put_rest(out, at, &list[1..])
+    };
+    let at = put_code(out, 0, first);
+    put_rest(out, at, rest)
 }
 
-fn mark_len(turn: usize) -> usize
-    ensures { (result ≡ length (mark_text turn)) × (result ≤ 1) }
-{
-    if turn == 1 {
-        return 0;
-    }
-    if turn == 2 {
-        return 1;
-    }
-    1
-}
-
-fn width_len(width: usize) -> usize
-    ensures { (result ≡ length (width_text width)) × (result ≤ 3) }
-{
-    if width == 2 {
-        return 0;
-    }
-    if width < 10 {
-        return 1;
-    }
-    if width < 100 {
-        return 2;
-    }
-    3
-}
-
-fn token_len(m: Move) -> usize
-    ensures { (result ≡ length (token_text m)) × (result ≤ 6) }
-{
-    let kind = m.kind;
-    let width = m.width;
-    let turn = m.turn;
-    let mark = mark_len(turn);
-    if generic_cube::is_wide(kind) {
-        return width_len(width) + (2 + mark);
-    }
-    1 + mark
-}
-
+// How many bytes the text of a code takes: where it ends in a text of its own.
 fn code_len(code: MoveCode) -> usize
     ensures { (result ≡ length (text_of code)) × (result ≤ 6) }
 {
-    let Code::Taken(m) = generic_cube::read_code(code) else {
-        return 0;
-    };
-    token_len(m)
+    put_code(&mut [0; 6], 0, code)
 }
 
 // Whether there is room for a space and a token for each code. What is left is counted, so that no sum can wrap.
@@ -181,14 +134,12 @@ fn rest_fits(list: &[MoveCode], room: usize) -> bool
     ensures { result ≡ leb (length (rest_text list.now)) room }
 {
     let mut left = room;
-    let mut i: usize = 0;
-    while i < list.len() {
-        let need = 1 + code_len(list[i]);
+    for &code in list {
+        let need = 1 + code_len(code);
         if left < need {
             return false;
         }
         left -= need;
-        i += 1;
     }
     true
 }
@@ -197,40 +148,31 @@ fn rest_fits(list: &[MoveCode], room: usize) -> bool
 fn text_fits(list: &[MoveCode], room: usize) -> bool
     ensures { result ≡ leb (length (list_text list.now)) room }
 {
-    if list.len() == 0 {
+    let Some((&first, rest)) = list.split_first() else {
         return true;
-    }
-    let first = code_len(list[0]);
-    if room < first {
-        return false;
-    }
-    rest_fits(&list[1..], room - first)
+    };
+    let need = code_len(first);
+    need <= room && rest_fits(rest, room - need)
 }
 
-// The refusal of a list that is written, 0 for none: a width is above 1 and below n.
-fn write_refusal(n: usize, list: &[MoveCode], room: usize) -> u8
-    ensures { result ≡ write_refusal n list.now room }
+// The refusal of a list that is written: a width is above 1 and below n.
+fn check_write(n: usize, list: &[MoveCode], room: usize) -> Result<(), Refusal>
+    ensures { result ≡ done (write_refusal n list.now room) }
 {
-    if generic_cube::is_size(n) {
-        let number = generic_cube::refusal_in(2, n - 1, list);
-        if number != 0 {
-            return number;
-        }
-        if text_fits(list, room) {
-            return 0;
-        }
-        return 6;
+    if !generic_cube::is_size(n) {
+        return Err(Refusal::Size);
     }
-    1
+    generic_cube::check_moves_in(2, n - 1, list)?;
+    if !text_fits(list, room) {
+        return Err(Refusal::Room);
+    }
+    Ok(())
 }
 
 // Writes a list as text.
-pub fn write_scramble(n: usize, list: &[MoveCode], out: &mut [u8]) -> Answer
+pub fn write_scramble(n: usize, list: &[MoveCode], out: &mut [u8]) -> Result<usize, Refusal>
     ensures { WriteResult n list.now out.old out.new result }
 {
-    let number = write_refusal(n, list, out.len());
-    if number != 0 {
-        return Answer::Refused(number);
-    }
-    Answer::Value(put_text(list, out))
+    check_write(n, list, out.len())?;
+    Ok(put_text(list, out))
 }

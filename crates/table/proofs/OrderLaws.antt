@@ -1,7 +1,9 @@
 -- The order of keys is a strict order, and a walk along two keys finds it.
-use mathlib.Core.Path.{◌≡◌, refl, sym, ap, ap₂, subst, ◌∙◌}
+use mathlib.Core.Path.{◌≡◌, refl, sym, ap, ap₂, ◌∙◌}
 use mathlib.Core.List.{List, [], ◌∷◌}
-use mathlib.Core.Bool.{true, false, true≢false}
+use mathlib.Core.Bool.{Bool, true, false, true≢false}
+use Rattle.std.specs.Prelude.{IsTrue, ◌↔◌}
+use Rattle.std.specs.Cmp.{Equal-is}
 use Prim.Native.Nat.{ℕ, zero, suc, ◌+◌, ◌*◌, ◌/◌, ◌≤◌, ◌<◌}
 use native.Mathlib.Nat.{add-zero}
 use native.Mathlib.Numerals.{add-one}
@@ -9,24 +11,25 @@ use native.Mathlib.Omega.{arith}
 use lib.Dec.{ltb}
 use lib.ListN.{length, drop, get_or, drop_of_length-le}
 use lib.Seq.{drop-cons}
-use borrow.Author.Tests.{lt-ltb, le-ltb}
+use borrow.Author.Tests.{lt-ltb, le-ltb, ne_eqb}
 use Rattle.ground.specs.Choice.{pick}
 use Rattle.ground.proofs.ChoiceLaws.{order_cases}
-use Rattle.table.specs.declared.Order.{Order}
-use Rattle.table.specs.declared.Order.TheVariants.{Less, Same, More}
-use Rattle.table.specs.Order.{order_of, is_same, is_less}
+use Rattle.std.specs.declared.cmp.Ordering.{Ordering}
+use Rattle.std.specs.declared.cmp.Ordering.TheVariants.{Less, Equal, Greater}
+use Rattle.table.specs.Order.{order_of}
+use Rattle.std.specs.Ordering.{is_eq, is_lt, nat_cmp}
 use Rattle.table.specs.Inner.{word_of}
 
 -- an order is one of three
-pub order_split {ℓ} : {A : Type ℓ} (o : Order) → (o ≡ Less → A) → (o ≡ Same → A) → (o ≡ More → A) → A
+pub order_split {ℓ} : {A : Type ℓ} (o : Ordering) → (o ≡ Less → A) → (o ≡ Equal → A) → (o ≡ Greater → A) → A
 order_split Less f g h = f refl
-order_split Same f g h = g refl
-order_split More f g h = h refl
+order_split Equal f g h = g refl
+order_split Greater f g h = h refl
 
 -- two keys with a byte in front of each
 data View (a b : ℕ) (x y : List ℕ) : Type 0 where
   below : a < b → order_of (a ∷ x) (b ∷ y) ≡ Less → View a b x y
-  above : b < a → order_of (a ∷ x) (b ∷ y) ≡ More → View a b x y
+  above : b < a → order_of (a ∷ x) (b ∷ y) ≡ Greater → View a b x y
   level : a ≡ b → order_of (a ∷ x) (b ∷ y) ≡ order_of x y → View a b x y
 
 view : (a b : ℕ) (x y : List ℕ) → View a b x y
@@ -37,40 +40,40 @@ view a b x y =
     (λ h. level h (rw (le-ltb a b (omega arith), le-ltb b a (omega arith))))
     (λ h. above h (rw (le-ltb a b (omega arith), lt-ltb b a h)))
 
-less_same : Less ≡ Same → ⊥
+less_same : Less ≡ Equal → ⊥
 less_same e = let z : ◌≡◌ {A = ℕ} 0 1 = cc in omega arith
 
-more_same : More ≡ Same → ⊥
+more_same : Greater ≡ Equal → ⊥
 more_same e = let z : ◌≡◌ {A = ℕ} 0 1 = cc in omega arith
 
-more_less : More ≡ Less → ⊥
+more_less : Greater ≡ Less → ⊥
 more_less e = let z : ◌≡◌ {A = ℕ} 0 1 = cc in omega arith
 
-pub same_eq : (x y : List ℕ) → order_of x y ≡ Same → x ≡ y
+pub same_eq : (x y : List ℕ) → order_of x y ≡ Equal → x ≡ y
 unfolding order_of
 same_eq [] [] e = refl
 same_eq [] (b ∷ y) e = absurd (less_same e)
 same_eq (a ∷ x) [] e = absurd (more_same e)
 same_eq (a ∷ x) (b ∷ y) e = go (same_eq x y) (view a b x y)
   where
-    go : (order_of x y ≡ Same → x ≡ y) → View a b x y → a ∷ x ≡ b ∷ y
+    go : (order_of x y ≡ Equal → x ≡ y) → View a b x y → a ∷ x ≡ b ∷ y
     go rec (below h g) = absurd (less_same (sym g ∙ e))
     go rec (above h g) = absurd (more_same (sym g ∙ e))
     go rec (level h g) = ap₂ ◌∷◌ h (rec (sym g ∙ e))
 
-pub eq_same : (x : List ℕ) → order_of x x ≡ Same
+pub eq_same : (x : List ℕ) → order_of x x ≡ Equal
 unfolding order_of
 eq_same [] = refl
 eq_same (a ∷ x) = rw (le-ltb a a (omega arith)) (eq_same x)
 
-pub more_flip : (x y : List ℕ) → order_of x y ≡ More → order_of y x ≡ Less
+pub more_flip : (x y : List ℕ) → order_of x y ≡ Greater → order_of y x ≡ Less
 unfolding order_of
 more_flip [] [] e = absurd (more_same (sym e))
 more_flip [] (b ∷ y) e = absurd (more_less (sym e))
 more_flip (a ∷ x) [] e = refl
 more_flip (a ∷ x) (b ∷ y) e = go (more_flip x y) (view a b x y)
   where
-    go : (order_of x y ≡ More → order_of y x ≡ Less) → View a b x y → order_of (b ∷ y) (a ∷ x) ≡ Less
+    go : (order_of x y ≡ Greater → order_of y x ≡ Less) → View a b x y → order_of (b ∷ y) (a ∷ x) ≡ Less
     go rec (below h g) = absurd (more_less (sym e ∙ g))
     go rec (above h g) = rw (lt-ltb b a h)
     go rec (level h g) = rw (le-ltb b a (omega arith), le-ltb a b (omega arith)) (rec (sym g ∙ e))
@@ -96,30 +99,33 @@ less_trans (a ∷ x) (b ∷ y) (c ∷ z) p q = go (less_trans x y z) (view a b x
 pub less_irrefl : (x : List ℕ) → order_of x x ≡ Less → ⊥
 less_irrefl x e = less_same (sym e ∙ eq_same x)
 
--- equal keys are the same
-pub unlike : (x y : List ℕ) → is_same (order_of x y) ≡ false → x ≡ y → ⊥
-unlike x y h e = true≢false (sym (ap is_same (subst (λ z. order_of x z ≡ Same) e (eq_same x))) ∙ h)
+-- the test of a key that was read
+pub same_told : {x y z : List ℕ} {o : Ordering} {b : Bool} → x ≡ z → o ≡ order_of x y → b ≡ is_eq o → IsTrue b ↔ (z ≡ y)
+same_told {x} {y} {z} {o} {b} e f g = (
+  λ t. sym e ∙ same_eq x y (sym f ∙ (Equal-is o).0 (sym g ∙ t)),
+  λ h. g ∙ ap is_eq (f ∙ ap (order_of x) (sym (e ∙ h)) ∙ eq_same x),
+)
 
 -- which order a test says
-pub is_less_lem : (o : Order) → is_less o ≡ true → o ≡ Less
+pub is_less_lem : (o : Ordering) → is_lt o ≡ true → o ≡ Less
 is_less_lem Less e = refl
-is_less_lem Same e = absurd (true≢false (sym e))
-is_less_lem More e = absurd (true≢false (sym e))
+is_less_lem Equal e = absurd (true≢false (sym e))
+is_less_lem Greater e = absurd (true≢false (sym e))
 
 -- a key that is not the same, either way round
-pub less_not_same : (x y : List ℕ) → order_of x y ≡ Less → is_same (order_of x y) ≡ false
+pub less_not_same : (x y : List ℕ) → order_of x y ≡ Less → is_eq (order_of x y) ≡ false
 less_not_same x y h = rw h
 
 -- two numbers decide how keys stand, or leave it to what follows them
-unfoldable pub decided : ℕ → ℕ → Order → Order
-decided v w rest = pick (ltb v w) Less (pick (ltb w v) More rest)
+unfoldable pub decided : ℕ → ℕ → Ordering → Ordering
+decided v w rest = pick (ltb v w) Less (pick (ltb w v) Greater rest)
 
-module _ {v w : ℕ} (rest : Order) where
+module _ {v w : ℕ} (rest : Ordering) where
   pub decided_less : v < w → decided v w rest ≡ Less
   unfolding decided
   decided_less lt = rw (lt-ltb v w lt)
 
-  pub decided_more : w < v → decided v w rest ≡ More
+  pub decided_more : w < v → decided v w rest ≡ Greater
   unfolding decided
   decided_more gt = rw (le-ltb v w (omega arith), lt-ltb w v gt)
 
@@ -127,8 +133,15 @@ module _ {v w : ℕ} (rest : Order) where
   unfolding decided
   decided-next le ge = rw (le-ltb v w le, le-ltb w v ge)
 
+  pub decided_other : (v ≡ w → ⊥) → decided v w rest ≡ nat_cmp v w
+  decided_other ne =
+      order_cases v w
+      (λ lt. decided_less lt ∙ sym (rw (lt-ltb v w lt)))
+      (λ eq. absurd (ne eq))
+      (λ gt. decided_more gt ∙ sym (rw (le-ltb v w (omega arith), ne_eqb v w ne)))
+
 -- numbers with a byte behind each decide as the numbers and then the bytes do
-decided_digit : (v w a b : ℕ) (rest : Order) → a < 256 → b < 256 → decided v w (decided a b rest) ≡ decided (256 * v + a) (256 * w + b) rest
+decided_digit : (v w a b : ℕ) (rest : Ordering) → a < 256 → b < 256 → decided v w (decided a b rest) ≡ decided (256 * v + a) (256 * w + b) rest
 decided_digit v w a b rest h g =
     order_cases v w
     (λ lt. decided_less _ lt ∙ sym (decided_less _ (omega arith)))
@@ -154,7 +167,7 @@ module _ (x y : List ℕ) (e : length x ≡ length y) where
   unfolding order_of decided
   byte_step j h = ap₂ order_of (drop-cons x j 0 h) (drop-cons y j 0 (omega arith)) ∙ rw (add-one j)
 
-  pub byte_end : (j : ℕ) → length x ≤ j → order_of (drop j x) (drop j y) ≡ Same
+  pub byte_end : (j : ℕ) → length x ≤ j → order_of (drop j x) (drop j y) ≡ Equal
   unfolding order_of
   byte_end j h = ap₂ order_of (drop_of_length-le x h) (drop_of_length-le y {i = j} (omega arith))
 
@@ -179,5 +192,5 @@ module _ (x y : List ℕ) (e : length x ≡ length y) where
         ∙ ap (λ k. decided v w (order_of (drop k x) (drop k y))) d
 
 -- the order that was found of keys that were read
-pub order_told : {x x' y y' : List ℕ} {o : Order} → x ≡ x' → y ≡ y' → o ≡ order_of x y → order_of x' y' ≡ o
+pub order_told : {x x' y y' : List ℕ} {o : Ordering} → x ≡ x' → y ≡ y' → o ≡ order_of x y → order_of x' y' ≡ o
 order_told e d h = sym (h ∙ ap₂ order_of e d)

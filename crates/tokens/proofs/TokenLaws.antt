@@ -1,50 +1,30 @@
 -- Laws of tokens: what the parts of one are where nothing is refused, that each code that is read is one that is taken, where a fault can
 -- stand, and the code's ways out.
-use Prim.Native.Nat.{ℕ, ◌+◌, ◌-◌, ◌/◌, ◌%◌, ◌*◌, ◌^◌, ◌≤◌, ◌<◌}
+use Prim.Native.Nat.{ℕ, zero, suc, ◌+◌, ◌-◌, ◌≤◌, ◌<◌}
 use mathlib.Core.Path.{◌≡◌, refl, sym, ap, subst, ◌∙◌}
 use mathlib.Core.Bool.{true, false, true≢false}
 use mathlib.Core.List.{List, [], ◌∷◌}
 use native.Mathlib.Omega.{arith}
 use lib.ListN.{length, get_or, get_or-eq_default}
-use lib.Dec.{ltb, leb, eqb}
+use lib.Dec.{ltb, eqb}
+use Rattle.std.specs.Prelude.{Result, Ok, Err}
 use borrow.Author.Tests.{eq-eqb, ne_eqb, le-ltb, lt-leb, le-leb, eqb-true, eqb-false, ltb-true, ltb-false, leb-false, not-false}
-use Rattle.ground.specs.Choice.{pick, position, between}
-use Rattle.ground.proofs.ChoiceLaws.{any_below, bool_cases, less_cases, between_bounds, bounds_between, under_between, over-between, tested}
+use Rattle.ground.specs.Choice.{position, between}
+use Rattle.ground.proofs.ChoiceLaws.{bool_cases, less_cases, between_bounds, bounds_between, under_between, over-between}
 use Rattle.generic_cube.specs.Code.{move, code_of, is_wide, outside}
 use Rattle.generic_cube.proofs.CodeLaws.{Good, good_move}
 use Rattle.tokens.specs.declared.Mark.{Mark}
-use Rattle.tokens.specs.declared.Token.{Token}
-use Rattle.tokens.specs.declared.Token.TheVariants.{Is, Not}
-use Rattle.tokens.specs.Token.{digit_of, is_digit, digits_of, token_width, letter_of, letter_at, is_wide_token, plain_kind, mark_of, suffix_at, suffix_of, token_end, token_move, bad_digits, no_letter, no_w, bytes_left, bad_token_width, Fault, token_faults, unless_fault, read_behind, read_token}
+use Rattle.tokens.specs.declared.Fault.{Fault}
+use Rattle.tokens.specs.Token.{digit_of, is_digit, digits_of, token_width, letter_of, letter_at, is_wide_token, plain_kind, mark_of, suffix_at, suffix_of, token_end, token_move, bad_digits, no_letter, no_w, bytes_left, bad_token_width, fault, FaultRow, token_faults, unless_fault, read_behind, read_token}
 use Rattle.tokens.specs.Inner.{Lettered}
 
 -- ---- a suffix has a turn, a letter a kind, and a digit a value
-
-pub mark_eq : (a b : Mark) → a.turn ≡ b.turn → a.size ≡ b.size → a ≡ b
-mark_eq a b t s = λ i. record { turn = t i; size = s i }
 
 pub mark_turn : (b : ℕ) → (1 ≤ (mark_of b).turn) × ((mark_of b).turn ≤ 3)
 unfolding mark_of
 mark_turn b =
     bool_cases (eqb b 50) (λ t. rw t (omega arith, omega arith))
     (λ t. bool_cases (eqb b 39) (λ s. rw (t, s) (omega arith, omega arith)) (λ s. rw (t, s) (omega arith, omega arith)))
-
--- the way to a letter's place by the code: the faces' places are packed by their letters, from B on, three bits each, 7 for none
-unfoldable pub face_places : ℕ
-face_places = 142989281726541692
-
-abbrev pub packed_at : ℕ → ℕ
-packed_at b = face_places / 2 ^ (3 * (b - 66)) % 8
-
-unfoldable pub letter_by : ℕ → ℕ
-letter_by b =
-    pick (ltb b 66) 9
-    (pick (leb b 85) (pick (eqb (packed_at b) 7) 9 (packed_at b))
-    (pick (ltb b 120) 9 (pick (leb b 122) (b - 114) 9)))
-
-pub letter_by_lem : (b : ℕ) → b < 256 → letter_by b ≡ letter_of b
-unfolding face_places letter_by letter_of position any_below
-letter_by_lem b h = eqb-true _ _ (tested (λ x. eqb (letter_by x) (letter_of x)) 256 refl b h)
 
 -- a digit is 48 and its value
 pub digit_back : (b : ℕ) → (digit_of b ≡ 10 → ⊥) → (b ≡ 48 + digit_of b) × (digit_of b < 10)
@@ -150,37 +130,37 @@ module _ (t : List ℕ) (k : ℕ) where
       record { first = z.0; few = z.1; letter = letter_parts b; plain = w_parts c; end = left_end d }
 
 -- no fault is there
-abbrev pub Faultless : List Fault → Type 0
+abbrev pub Faultless : List FaultRow → Type 0
 Faultless [] = Unit {0}
 Faultless (f ∷ fs) = (f.there ≡ false) × Faultless fs
 
-faultless_read : (fs : List Fault) (r : Token) → Faultless fs → unless_fault fs r ≡ r
+faultless_read : (fs : List FaultRow) (r : Result ℕ Fault) → Faultless fs → unless_fault fs r ≡ r
 unfolding unless_fault
 faultless_read [] r p = refl
 faultless_read (f ∷ fs) r p = rw p.0 (faultless_read fs r p.1)
 
-read_faultless : (fs : List Fault) (x c : ℕ) → unless_fault fs (Is x) ≡ Is c → Faultless fs × (c ≡ x)
+read_faultless : (fs : List FaultRow) (x c : ℕ) → unless_fault fs (Ok x) ≡ Ok c → Faultless fs × (c ≡ x)
 unfolding unless_fault
 read_faultless [] x c e = (tt, cc)
 read_faultless (f ∷ fs) x c e =
     bool_cases f.there
-    (λ t. let q : Not f.number f.place ≡ Is c = rw t at e in let z : ◌≡◌ {A = ℕ} 0 1 = cc in absurd (omega arith))
+    (λ t. let q : Err (fault f.number f.place) ≡ Ok c = rw t at e in let z : ◌≡◌ {A = ℕ} 0 1 = cc in absurd (omega arith))
     (λ t. let q = read_faultless fs x c (rw t at e) in ((t, q.0), q.1))
 
 module _ (n : ℕ) (t : List ℕ) (k : ℕ) where
   -- A CODE IS READ EXACTLY IF A TOKEN HAS THESE PARTS
-  pub token_code : {c : ℕ} → read_behind n t k ≡ Is c → (Parts n t k) × (c ≡ code_of (token_move t k))
+  pub token_code : {c : ℕ} → read_behind n t k ≡ Ok c → (Parts n t k) × (c ≡ code_of (token_move t k))
   unfolding read_behind
   token_code {c} e =
       let q = read_faultless (token_faults n t k) (code_of (token_move t k)) c e in
       let p = q.0 in
       (record { form = formed_by t k p.0 p.1.0 p.1.1.0 p.1.1.1.0; width = width_parts t k n p.1.1.1.1.0 }, q.1)
 
-  pub parts_code : Parts n t k → Is (code_of (token_move t k)) ≡ read_behind n t k
+  pub parts_code : Parts n t k → Ok (code_of (token_move t k)) ≡ read_behind n t k
   unfolding read_behind
   parts_code p =
       let f = p.form in
-      sym (faultless_read (token_faults n t k) (Is (code_of (token_move t k))) (
+      sym (faultless_read (token_faults n t k) (Ok (code_of (token_move t k))) (
         parts_digits t k f.first f.few,
         (
           parts_letter t k f.letter f.plain,
@@ -209,7 +189,7 @@ module _ (t : List ℕ) (k : ℕ) where
       rw (plain_move w) (good_move 2 (n - 1) _ u.0 u.1 f.most (λ z. refl) (λ z. absurd (true≢false (sym z ∙ f.plain)))))
 
 -- a token's code is one that the writer takes
-pub token_good : (n : ℕ) (t : List ℕ) (c : ℕ) → read_token n t ≡ Is c → Good 2 (n - 1) c
+pub token_good : (n : ℕ) (t : List ℕ) (c : ℕ) → read_token n t ≡ Ok c → Good 2 (n - 1) c
 unfolding read_token
 token_good n t c e =
     let q = token_code n t (digits_of t) e in
@@ -247,6 +227,18 @@ digits_end t h =
     (λ b. rw (a, b) (record { long = digit_stands t 0 a; ended = b })))
     (λ a. rw a (record { long = omega arith; ended = a }))
 
+-- so many digits stand there, and no fourth behind fewer than four
+pub digits_are : (t : List ℕ) (i : ℕ) → i ≤ 4 → ((k : ℕ) → k < i → is_digit (get_or t k 0) ≡ true) → (i < 4 → is_digit (get_or t i 0) ≡ false)
+    → i ≡ digits_of t
+unfolding digits_of
+digits_are t zero h b e = rw (e (omega arith))
+digits_are t (suc zero) h b e = rw (b 0 (omega arith), e (omega arith))
+digits_are t (suc (suc zero)) h b e = rw (b 0 (omega arith), b 1 (omega arith), e (omega arith))
+digits_are t (suc (suc (suc zero))) h b e = rw (b 0 (omega arith), b 1 (omega arith), b 2 (omega arith), e (omega arith))
+digits_are t (suc (suc (suc (suc zero)))) h b e =
+    rw (b 0 (omega arith), b 1 (omega arith), b 2 (omega arith), b 3 (omega arith))
+digits_are t (suc (suc (suc (suc (suc i))))) h b e = absurd (omega arith)
+
 -- a suffix ends within the token
 mark_within : (t : List ℕ) (s : ℕ) → s ≤ length t → s + (mark_of (get_or t s 0)).size ≤ length t
 unfolding mark_of
@@ -265,41 +257,41 @@ end_within t k l =
     (λ w. let i = letter_stands t k l in rw w (mark_within t (k + 1) (omega arith)))
 
 -- a refusal's place is one in the token, or the token's end
-pub place_within : (n : ℕ) (t : List ℕ) {j p : ℕ} → Not j p ≡ read_token n t → p ≤ length t
+pub place_within : (n : ℕ) (t : List ℕ) {f : Fault} → Err f ≡ read_token n t → f.place ≤ length t
 unfolding read_token read_behind unless_fault
-place_within n t {j} {p} e =
+place_within n t {f} e =
     let k : ℕ = digits_of t in
-    bool_cases (bad_digits t k) (λ a. let q : Not j p ≡ Not 13 0 = rw a at e in let z : p ≡ 0 = cc in omega arith) (λ a.
+    bool_cases (bad_digits t k) (λ a. let q : Err f ≡ Err (fault 13 0) = rw a at e in let z : f.place ≡ 0 = cc in omega arith) (λ a.
     bool_cases (no_letter t k) (λ b.
-    let q : Not j p ≡ Not 12 k = rw (a, b) at e in
-    let z : p ≡ k = cc in
+    let q : Err f ≡ Err (fault 12 k) = rw (a, b) at e in
+    let z : f.place ≡ k = cc in
     omega (arith, (digits_end t (digits_parts t k a).1).long)) (λ b.
     let l = letter_parts t k b in
     bool_cases (no_w t k) (λ c.
-    let q : Not j p ≡ Not 14 (k + 1) = rw (a, b, c) at e in
-    let z : p ≡ k + 1 = cc in
+    let q : Err f ≡ Err (fault 14 (k + 1)) = rw (a, b, c) at e in
+    let z : f.place ≡ k + 1 = cc in
     omega (arith, letter_stands t k l)) (λ c.
     bool_cases (bytes_left t k) (λ d.
-    let q : Not j p ≡ Not 14 (token_end t k) = rw (a, b, c, d) at e in
-    let z : p ≡ token_end t k = cc in
+    let q : Err f ≡ Err (fault 14 (token_end t k)) = rw (a, b, c, d) at e in
+    let z : f.place ≡ token_end t k = cc in
     omega (arith, end_within t k l)) (λ d.
     bool_cases (bad_token_width n t k)
-    (λ f. let q : Not j p ≡ Not 5 0 = rw (a, b, c, d, f) at e in let z : p ≡ 0 = cc in omega arith)
-    (λ f. let q : Not j p ≡ Is (code_of (token_move t k)) = rw (a, b, c, d, f) at e in let z : ◌≡◌ {A = ℕ} 0 1 = cc in absurd (omega arith))))))
+    (λ g. let q : Err f ≡ Err (fault 5 0) = rw (a, b, c, d, g) at e in let z : f.place ≡ 0 = cc in omega arith)
+    (λ g. let q : Err f ≡ Ok (code_of (token_move t k)) = rw (a, b, c, d, g) at e in let z : ◌≡◌ {A = ℕ} 0 1 = cc in absurd (omega arith))))))
 
 -- ---- the code's ways out
 
 module _ (n : ℕ) (t : List ℕ) (k : ℕ) where
-  pub out_digits : bad_digits t k ≡ true → Not 13 0 ≡ read_behind n t k
+  pub out_digits : bad_digits t k ≡ true → Err (fault 13 0) ≡ read_behind n t k
   unfolding read_behind unless_fault
   out_digits e = rw e
 
-  pub out_letter : bad_digits t k ≡ false → no_letter t k ≡ true → Not 12 k ≡ read_behind n t k
+  pub out_letter : bad_digits t k ≡ false → no_letter t k ≡ true → Err (fault 12 k) ≡ read_behind n t k
   unfolding read_behind unless_fault
   out_letter e d = rw (e, d)
 
   module _ {place : ℕ} (l : Lettered t k place) where
-    pub out_w : is_wide_token t k ≡ false → (k ≡ 0 → ⊥) → Not 14 (k + 1) ≡ read_behind n t k
+    pub out_w : is_wide_token t k ≡ false → (k ≡ 0 → ⊥) → Err (fault 14 (k + 1)) ≡ read_behind n t k
     unfolding read_behind unless_fault no_w
     out_w w z = rw (l.digits, l.some, ne_eqb k 0 z, w)
 
@@ -308,10 +300,10 @@ module _ (n : ℕ) (t : List ℕ) (k : ℕ) where
       ended : token_end t k ≡ s + mark.size
       ended = rw (q, e)
 
-      pub out_left : (length t ≡ s + mark.size → ⊥) → Not 14 (s + mark.size) ≡ read_behind n t k
+      pub out_left : (length t ≡ s + mark.size → ⊥) → Err (fault 14 (s + mark.size)) ≡ read_behind n t k
       unfolding read_behind unless_fault bytes_left
       out_left z =
-          ap (Not 14) (sym ended) ∙ rw (l.digits, l.some, parts_w t k p, ne_eqb (length t) (token_end t k) (λ y. z (y ∙ ended)))
+          ap (λ (p : ℕ). Err (fault 14 p)) (sym ended) ∙ rw (l.digits, l.some, parts_w t k p, ne_eqb (length t) (token_end t k) (λ y. z (y ∙ ended)))
 
       module _ (h : length t ≡ s + mark.size) where
         formed : Formed t k
@@ -319,20 +311,20 @@ module _ (n : ℕ) (t : List ℕ) (k : ℕ) where
             let d = digits_parts t k l.digits in
             record { first = d.0; few = d.1; letter = letter_parts t k l.some; plain = p; end = h ∙ sym ended }
 
-        pub out_plain : is_wide_token t k ≡ false → {kind c : ℕ} → kind ≡ plain_kind place → c ≡ code_of (move kind 0 mark.turn) → Is c ≡ read_behind n t k
+        pub out_plain : is_wide_token t k ≡ false → {kind c : ℕ} → kind ≡ plain_kind place → c ≡ code_of (move kind 0 mark.turn) → Ok c ≡ read_behind n t k
         out_plain w {kind} {c} a b =
             let m : code_of (move kind 0 mark.turn) ≡ code_of (token_move t k) = rw (plain_move t k w, q, a, e, l.letter) in
-            ap Is (b ∙ m) ∙ parts_code n t k (record { form = formed; width = λ y. absurd (true≢false (sym y ∙ w)) })
+            ap Ok (b ∙ m) ∙ parts_code n t k (record { form = formed; width = λ y. absurd (true≢false (sym y ∙ w)) })
 
         module _ (w : is_wide_token t k ≡ true) {v : ℕ} (a : v ≡ token_width t k) where
-          pub out_width : outside 2 (n - 1) v ≡ true → Not 5 0 ≡ read_behind n t k
+          pub out_width : outside 2 (n - 1) v ≡ true → Err (fault 5 0) ≡ read_behind n t k
           unfolding read_behind unless_fault bad_token_width
           out_width o = rw (l.digits, l.some, parts_w t k p, end_left t k (h ∙ sym ended), w, ← a, o)
 
-          pub out_wide : outside 2 (n - 1) v ≡ false → {c : ℕ} → c ≡ code_of (move (place + 6) v mark.turn) → Is c ≡ read_behind n t k
+          pub out_wide : outside 2 (n - 1) v ≡ false → {c : ℕ} → c ≡ code_of (move (place + 6) v mark.turn) → Ok c ≡ read_behind n t k
           out_wide o {c} b =
               let m : code_of (move (place + 6) v mark.turn) ≡ code_of (token_move t k) = rw (wide_move t k w, q, a, e, l.letter) in
-              ap Is (b ∙ m) ∙ parts_code n t k (record { form = formed; width = λ y. rw a at o })
+              ap Ok (b ∙ m) ∙ parts_code n t k (record { form = formed; width = λ y. rw a at o })
 
 -- what the code's tests say
 module _ (t : List ℕ) where
@@ -355,13 +347,13 @@ module _ (t : List ℕ) where
   pub bare_digits : digits_of t ≡ 0 → bad_digits t 0 ≡ false
   bare_digits e = parts_digits t 0 (λ z. some_digits (zero_digit z) e) (omega arith)
 
-  pub bare_letter : {place : ℕ} → place ≡ letter_at t 0 → place ≤ 9 → (place ≡ 9 → ⊥) → no_letter t 0 ≡ false
+  pub bare_letter : {place : ℕ} → place ≡ letter_at t 0 → place < 9 → no_letter t 0 ≡ false
   unfolding no_letter
-  bare_letter e h z = lt-leb 9 (letter_at t 0) (omega (arith, e))
+  bare_letter e h = lt-leb 9 (letter_at t 0) (omega (arith, e))
 
-  pub bare_none : {place : ℕ} → place ≡ letter_at t 0 → place ≡ 9 → no_letter t 0 ≡ true
+  pub bare_none : letter_at t 0 ≡ 9 → no_letter t 0 ≡ true
   unfolding no_letter
-  bare_none e z = rw (← e, z)
+  bare_none e = rw e
 
   module _ {k place : ℕ} (some : 0 < k) (e : place ≡ letter_at t k) where
     pub face_letter : place < 6 → no_letter t k ≡ false
@@ -373,8 +365,8 @@ module _ (t : List ℕ) where
     face_none h = rw (ne_eqb k 0 (omega arith)) (le-leb 6 (letter_at t k) (omega (arith, e)))
 
 -- behind digits a byte that is no face's letter is 12 where it stands
-pub out_no_letter : (n : ℕ) (t : List ℕ) (k : ℕ) → bad_digits t k ≡ false → 0 < k → 6 ≤ letter_at t k → read_behind n t k ≡ Not 12 k
-out_no_letter n t k e some h = sym (out_letter n t k e (face_none t some refl h))
+pub out_no_letter : (n : ℕ) (t : List ℕ) (k : ℕ) → bad_digits t k ≡ false → 0 < k → 6 ≤ letter_at t k → Err (fault 12 k) ≡ read_behind n t k
+out_no_letter n t k e some h = out_letter n t k e (face_none t some refl h)
 
 -- with a `w` the suffix stands at k + 2, without at k + 1
 module _ (t : List ℕ) (k : ℕ) where

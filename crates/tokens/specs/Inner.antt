@@ -1,9 +1,8 @@
 -- Inner contracts: what the walks over a text and over a token ask and tell.
-use Rattle.std.specs.Prelude.{ℕ, ◌-◌, ◌<◌, ◌≤◌, ◌≡◌, Bool, true, false, List, [], ◌∷◌, length, get_or, take, drop}
-use Rattle.tokens.specs.Token.{letter_at, bad_digits, no_letter}
+use Rattle.std.specs.Prelude.{ℕ, ◌-◌, ◌<◌, ◌≤◌, ◌≡◌, Bool, true, false, List, [], ◌∷◌, Option, None, Some, length, get_or, take, drop}
+use Rattle.tokens.specs.Token.{letter_of, letter_at, bad_digits, no_letter}
 use Rattle.tokens.specs.Words.{is_space, group_signs, words_from}
-use Rattle.tokens.specs.declared.Next.{Next}
-use Rattle.tokens.specs.declared.Next.TheVariants.{End, Word}
+use Rattle.tokens.specs.declared.words.Word.{Word}
 
 -- ---- words
 
@@ -26,11 +25,19 @@ pub record Found (signs text : List ℕ) (i s e : ℕ) : Type 0 where
   pub within : e ≤ length text
   pub one : words_from signs text i ≡ record { start = s; bytes = take (e - s) (drop s text) } ∷ words_from signs text e
 
-abbrev pub Ahead : List ℕ → List ℕ → ℕ → Next → Type 0
-Ahead signs text i End = words_from signs text i ≡ []
-Ahead signs text i (Word s e) = Found signs text i s e
+abbrev pub Ahead : List ℕ → List ℕ → ℕ → Option Word → Type 0
+Ahead signs text i None = words_from signs text i ≡ []
+Ahead signs text i (Some w) = Found signs text i w.start w.end
 
--- ---- a token that was read up to its letter, the one with that place
+-- ---- a letter, and a token that was read up to its letter, the one with that place
+
+abbrev pub LetterPlace : ℕ → Option ℕ → Type 0
+LetterPlace b None = letter_of b ≡ 9
+LetterPlace b (Some place) = (place ≡ letter_of b) × (place < 9)
+
+abbrev pub FacePlace : ℕ → Option ℕ → Type 0
+FacePlace b None = 6 ≤ letter_of b
+FacePlace b (Some place) = (place ≡ letter_of b) × (place < 6)
 
 pub record Lettered (t : List ℕ) (k place : ℕ) : Type 0 where
   pub digits : bad_digits t k ≡ false

@@ -1,11 +1,11 @@
 -- The grammar of a token, read left to right by the place in it. `get_or t i 0` is the byte at i, 0 past the end; k is the number of digits at
 -- the front, 4 for more than three.
-use Rattle.std.specs.Prelude.{ℕ, ◌+◌, ◌-◌, ◌*◌, Bool, not, ◌&&◌, ◌||◌, List, [], ◌∷◌, length, get_or, ltb, leb, eqb}
+use Rattle.std.specs.Prelude.{ℕ, ◌+◌, ◌-◌, ◌*◌, Bool, not, ◌&&◌, ◌||◌, List, [], ◌∷◌, Result, Ok, Err, length, get_or, ltb, leb, eqb}
 use Rattle.ground.specs.Choice.{pick, position, between}
+use Rattle.ground.specs.Refusals.{refusal}
 use Rattle.generic_cube.specs.Code.{move, code_of, outside}
 use Rattle.generic_cube.specs.declared.Move.{Move}
-use Rattle.tokens.specs.declared.Token.{Token}
-use Rattle.tokens.specs.declared.Token.TheVariants.{Is, Not}
+use Rattle.tokens.specs.declared.Fault.{Fault}
 use Rattle.tokens.specs.declared.Mark.{Mark}
 
 -- ---- digits
@@ -103,18 +103,22 @@ bytes_left t k = not (eqb (length t) (token_end t k))
 unfoldable pub bad_token_width : ℕ → List ℕ → ℕ → Bool
 bad_token_width n t k = is_wide_token t k && outside 2 (n - 1) (token_width t k)
 
--- a fault: its number, its place in the token, and whether it is there
-pub record Fault : Type 0 where
+-- the refusal with the number k, at the place p in the token
+abbrev pub fault : ℕ → ℕ → Fault
+fault k p = record { refusal = refusal k; place = p }
+
+-- a row: a fault's number, its place in the token, and whether it is there
+pub record FaultRow : Type 0 where
   pub number : ℕ
   pub place : ℕ
   pub there : Bool
 
 infix 68 ◌at◌when◌
-abbrev pub ◌at◌when◌ : ℕ → ℕ → Bool → Fault
+abbrev pub ◌at◌when◌ : ℕ → ℕ → Bool → FaultRow
 k at p when t = record { number = k; place = p; there = t }
 
 -- 13, 12, 14: where the token stops being one of the grammar, read left to right; 5: its width, at its start, where none of these is there
-abbrev pub token_faults : ℕ → List ℕ → ℕ → List Fault
+abbrev pub token_faults : ℕ → List ℕ → ℕ → List FaultRow
 token_faults n t k =
     13 at 0 when bad_digits t k
     ∷ 12 at k when no_letter t k
@@ -124,13 +128,13 @@ token_faults n t k =
     ∷ []
 
 -- the first fault that is there refuses the token
-unfoldable pub unless_fault : List Fault → Token → Token
+unfoldable pub unless_fault : List FaultRow → Result ℕ Fault → Result ℕ Fault
 unless_fault [] r = r
-unless_fault (f ∷ fs) r = pick f.there (Not f.number f.place) (unless_fault fs r)
+unless_fault (f ∷ fs) r = pick f.there (Err (fault f.number f.place)) (unless_fault fs r)
 
 -- the token with k digits at the front: its code, or its refusal
-unfoldable pub read_behind : ℕ → List ℕ → ℕ → Token
-read_behind n t k = unless_fault (token_faults n t k) (Is (code_of (token_move t k)))
+unfoldable pub read_behind : ℕ → List ℕ → ℕ → Result ℕ Fault
+read_behind n t k = unless_fault (token_faults n t k) (Ok (code_of (token_move t k)))
 
-unfoldable pub read_token : ℕ → List ℕ → Token
+unfoldable pub read_token : ℕ → List ℕ → Result ℕ Fault
 read_token n t = read_behind n t (digits_of t)

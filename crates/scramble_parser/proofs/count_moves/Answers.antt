@@ -1,30 +1,15 @@
 -- `count_moves`: what was counted, with what is left to read, is the whole.
-use native.Mathlib.Omega.{arith}
-use mathlib.Core.List.{[]}
-use mathlib.Core.Path.{sym, ◌∙◌}
-use Rattle.tokens.specs.Inner.{Found}
-use Rattle.tokens.proofs.WordLaws.{found, none_left}
-use Rattle.scramble_parser.proofs.ParseLaws.{count_end, count_more, count_bad, bad_within}
+use mathlib.Core.Path.{◌∙◌}
+use Rattle.ground.proofs.RefusalLaws.{passed_on}
+use Rattle.scramble_parser.proofs.ParseLaws.{count_end, count_more, count_bad}
 use Rattle.scramble_parser.proofs.count_moves.Goals as goal
-use Rattle.scramble_parser.proofs.count_moves.Goals.{In-Word}
 
--- the word that was found
-word : (c : In-Word) → Found [] c.args.text.now c.loop-start.i c.in-Word.start c.in-Word.end
-word c =
-    found [] c.args.text.now c.loop-start.i c.in-Word.is c.next_token.ensures
+pub returns-in_err-read_word : goal.returns-in_err-read_word
+returns-in_err-read_word c =
+    passed_on _ c.from_residual.ensures.1 ∙ count_bad c.loop-word.invariant c.in-Some.ensures c.in_err-read_word.ensures
 
-pub returns-in_default : goal.returns-in_default
-returns-in_default c = count_end c.loop-start.invariant (none_left [] _ _ c.in_default.is c.next_token.ensures)
+pub loop-word-preserved : goal.loop-word-preserved
+loop-word-preserved c = count_more c.loop-word.invariant c.in-Some.ensures c.in_ok-read_word.ensures
 
-pub loop-start-preserved : goal.loop-start-preserved
-loop-start-preserved c =
-    count_more c.loop-start.invariant (word (goal.at.loop-start-preserved c).In-Word) (sym c.in-Is.is ∙ c.read_token.ensures)
-
-pub overflow_add-at : goal.overflow_add-at
-overflow_add-at c =
-    let w = bad_within c.loop-start.invariant (word (goal.at.overflow_add-at c).In-Word) (sym c.in-Not.is ∙ c.read_token.ensures) in
-    omega arith
-
-pub returns-in-Not : goal.returns-in-Not
-returns-in-Not c =
-    count_bad c.loop-start.invariant (word (goal.at.returns-in-Not c).In-Word) (sym c.in-Not.is ∙ c.read_token.ensures)
+pub returns : goal.returns
+returns c = count_end c.loop-word.invariant c.in_default.ensures

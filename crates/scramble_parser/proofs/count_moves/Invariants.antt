@@ -4,8 +4,8 @@ use lib.ListN.{length}
 use Rattle.scramble_parser.proofs.ParseLaws.{Counted}
 use Rattle.scramble_parser.proofs.count_moves.Given as goal
 
-abbrev pub invariant-loop-start : goal.invariant-loop-start
-invariant-loop-start l = Counted l.n l.text l.i l.count
+abbrev pub invariant-loop-word : goal.invariant-loop-word
+invariant-loop-word l = Counted l.n l.text l.i l.count
 
-abbrev pub decreases-loop-start : goal.decreases-loop-start
-decreases-loop-start l = length l.text - l.i
+abbrev pub decreases-loop-word : goal.decreases-loop-word
+decreases-loop-word l = length l.text - l.i

@@ -1,13 +1,15 @@
 use mathlib.Core.Path.{sym, ◌∙◌}
+use borrow.Author.Tests.{lt-leb}
 use Rattle.scramble_writer.proofs.WriteLaws.{fits_empty, fits_short, fits_rest}
 use Rattle.scramble_writer.proofs.text_fits.Goals as goal
 
-pub returns-then-list-eq0 : goal.returns-then-list-eq0
-returns-then-list-eq0 c = sym (fits_empty _ _ c.if-list-eq0.true)
+pub returns-in_default : goal.returns-in_default
+returns-in_default c = sym (fits_empty _ _ c.in_default.ensures.cases)
 
-pub returns-then-room-first : goal.returns-then-room-first
-returns-then-room-first c = sym (fits_short _ c.if-list-eq0.false _ (rw c.code_len-first.ensures.0 at c.if-room-first.true))
+pub returns-then-need-room : goal.returns-then-need-room
+returns-then-need-room c =
+    c.rest_fits.ensures ∙ rw c.code_len-need.ensures.0 (fits_rest c.in-Some.ensures.cases.0 _ (rw c.code_len-need.ensures.0 at c.if-need-room.true))
 
-pub returns : goal.returns
-returns c =
-    c.rest_fits.ensures ∙ rw c.code_len-first.ensures.0 (fits_rest _ c.if-list-eq0.false _ (rw c.code_len-first.ensures.0 at c.if-room-first.false))
+pub returns-else-need-room : goal.returns-else-need-room
+returns-else-need-room c =
+    lt-leb _ _ c.if-need-room.false ∙ sym (fits_short c.in-Some.ensures.cases.0 _ (rw c.code_len-need.ensures.0 at c.if-need-room.false))

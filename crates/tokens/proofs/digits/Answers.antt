@@ -1,29 +1,15 @@
-use borrow.Author.Tests.{eq-eqb, ne_eqb}
-use Rattle.tokens.specs.Token.{digits_of, is_digit}
+use mathlib.Core.Path.{sym, ◌∙◌}
 use native.Mathlib.Omega.{arith}
+use borrow.Author.Count.{below_more}
+use Rattle.tokens.proofs.TokenLaws.{digits_are}
 use Rattle.tokens.proofs.digits.Goals as goal
 
-pub returns-then-digit_at-eq10 : goal.returns-then-digit_at-eq10
-unfolding digits_of is_digit
-returns-then-digit_at-eq10 c =
-    (simp (← c.digit_at.ensures.0, eq-eqb _ _ c.if-digit_at-eq10.true), omega arith)
+pub returns-then-not-is_digit : goal.returns-then-not-is_digit
+returns-then-not-is_digit c =
+    (digits_are _ _ (omega arith) c.loop-i.invariant (λ h. sym c.is_digit.ensures ∙ c.if-not-is_digit.true), omega arith)
 
-pub returns-then-digit_at-eq10-2 : goal.returns-then-digit_at-eq10-2
-unfolding digits_of is_digit
-returns-then-digit_at-eq10-2 c =
-    (simp (← c.digit_at.ensures.0, ne_eqb _ _ c.if-digit_at-eq10.false, ← c.digit_at-2.ensures.0, eq-eqb _ _ c.if-digit_at-eq10-2.true), omega arith)
-
-pub returns-then-digit_at-eq10-3 : goal.returns-then-digit_at-eq10-3
-unfolding digits_of is_digit
-returns-then-digit_at-eq10-3 c =
-    (simp (← c.digit_at.ensures.0, ne_eqb _ _ c.if-digit_at-eq10.false, ← c.digit_at-2.ensures.0, ne_eqb _ _ c.if-digit_at-eq10-2.false, ← c.digit_at-3.ensures.0, eq-eqb _ _ c.if-digit_at-eq10-3.true), omega arith)
-
-pub returns-then-digit_at-eq10-4 : goal.returns-then-digit_at-eq10-4
-unfolding digits_of is_digit
-returns-then-digit_at-eq10-4 c =
-    (simp (← c.digit_at.ensures.0, ne_eqb _ _ c.if-digit_at-eq10.false, ← c.digit_at-2.ensures.0, ne_eqb _ _ c.if-digit_at-eq10-2.false, ← c.digit_at-3.ensures.0, ne_eqb _ _ c.if-digit_at-eq10-3.false, ← c.digit_at-4.ensures.0, eq-eqb _ _ c.if-digit_at-eq10-4.true), omega arith)
+pub loop-i-preserved : goal.loop-i-preserved
+loop-i-preserved c = below_more _ _ c.loop-i.invariant (sym c.is_digit.ensures ∙ c.if-not-is_digit.false)
 
 pub returns : goal.returns
-unfolding digits_of is_digit
-returns c =
-    (simp (← c.digit_at.ensures.0, ne_eqb _ _ c.if-digit_at-eq10.false, ← c.digit_at-2.ensures.0, ne_eqb _ _ c.if-digit_at-eq10-2.false, ← c.digit_at-3.ensures.0, ne_eqb _ _ c.if-digit_at-eq10-3.false, ← c.digit_at-4.ensures.0, ne_eqb _ _ c.if-digit_at-eq10-4.false), omega arith)
+returns c = (digits_are _ 4 (omega arith) (λ k h. c.loop-i.invariant k (omega arith)) (λ h. absurd (omega arith)), omega arith)

@@ -1,4 +1,7 @@
-use mathlib.Core.Path.{sym, ◌∙◌}
+use mathlib.Core.Path.{◌≡◌, sym, subst, ◌∙◌}
+use native.Mathlib.Omega.{arith}
+use lib.ListN.{length}
+use Rattle.tokens.specs.Inner.{Found}
 use Rattle.tokens.proofs.WordLaws.{word_one, word_more, word_stop, word_all, word_sign}
 use Rattle.tokens.proofs.words.word_end.Goals as goal
 
@@ -15,4 +18,5 @@ pub loop-e-preserved : goal.loop-e-preserved
 loop-e-preserved c = word_more c.loop-e.invariant c.loop-e-test.true (sym c.ends_word.ensures ∙ c.if-ends_word.false)
 
 pub returns : goal.returns
-returns c = word_all c.loop-e.invariant c.loop-e-test.false
+returns c =
+    let e : c.loop-e.e ≡ length c.args.text.now = omega arith in subst (Found _ _ _ _) e (word_all c.loop-e.invariant c.loop-e-test.false)
