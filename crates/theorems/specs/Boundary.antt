@@ -1,11 +1,10 @@
 -- What a caller of the exported functions reads in the one number that each of them answers, and in the slices that it lent.
-use Rattle.std.specs.Prelude.{ℕ, zero, suc, ◌/◌, ◌%◌, ◌<◌, ◌≡◌, List, length, take}
-use Rattle.generic_cube.specs.declared.Answer.TheVariants.{Value}
+use Rattle.std.specs.Prelude.{ℕ, zero, suc, ◌/◌, ◌%◌, ◌<◌, ◌≡◌, List, length, take, Ok}
 use Rattle.generic_cube.specs.Answers.{answer_no, answer_value}
 use Rattle.search_theory.specs.Search.{Reply, none, found, Best}
 use Rattle.search_theory.specs.CubeSearch.{CubeSearch, task_of, AdmissibleTable}
 use Rattle.pruning_table.specs.PruningTable.{PruningTableResult}
-use Rattle.ida_star.specs.IdaStar.{reply, IdaStarResult, outcome_no, outcome_value}
+use Rattle.ida_star.specs.IdaStar.{reply, IdaStarResult, outcome_value}
 use Rattle.cubesim.specs.Pack.{pack, Packed}
 use Rattle.theorems.specs.Searching.{used, UndoThemselves}
 
@@ -30,7 +29,7 @@ TableCall n starts moves depth table table' b = Packed answer_no answer_value (P
 
 -- a call of `cubesim_ida_star` answered r and left work' and out'
 abbrev pub SearchCall : CubeSearch → List ℕ → List ℕ → List ℕ → List ℕ → ℕ → Type 0
-SearchCall q work work' out out' r = Packed outcome_no outcome_value (IdaStarResult q work work' out out') r
+SearchCall q work work' out out' r = Packed answer_no outcome_value (IdaStarResult q work work' out out') r
 
 -- the value 0 tells none, k + 1 the first k codes of the output
 abbrev pub reply_read : ℕ → List ℕ → Reply
@@ -41,7 +40,7 @@ reply_read (suc k) out = found (take k out)
 abbrev pub TableRead : Type 0
 TableRead =
     (n : ℕ) (starts moves : List ℕ) (depth : ℕ) (table table' : List ℕ) (b : ℕ) → Fits (length table)
-    → TableCall n starts moves depth table table' b → b % 256 ≡ 0 → PruningTableResult n starts moves depth table table' (Value (b / 256))
+    → TableCall n starts moves depth table table' b → b % 256 ≡ 0 → PruningTableResult n starts moves depth table table' (Ok (b / 256))
 
 -- number 0: value and output tell what `dfs` under rising limits answers, for any table at all
 abbrev pub SearchTold : Type 0
