@@ -9,22 +9,33 @@ use lib.ListN.{length}
 use borrow.Author.Tests.{eqb-true, eqb-false, lt-ltb, leb-true}
 use Rattle.std.specs.Prelude.{Option, Some, None, Result, Ok, Err}
 use Rattle.ground.specs.declared.refusals.Refusal.{Refusal}
-use Rattle.ground.specs.Refusals.{number_of}
+use Rattle.ground.specs.Refusals.{number_of, refusal}
 use Rattle.ground.proofs.RefusalLaws.{number_low}
-use Rattle.generic_cube.proofs.AnswerLaws.{ok_number}
+use Rattle.generic_cube.proofs.AnswerLaws.{ok_number, number_told}
 use Rattle.generic_cube.specs.Answers.{answer_no, answer_value}
+use Rattle.generic_cube.specs.AllMoves.{all_rows, all_refusal}
+use Rattle.generic_cube.specs.StickerIndex.{sticker_rows, sticker_refusal}
+use Rattle.move_lists.specs.Lists.{same_rows, same_refusal}
+use Rattle.scramble_writer.specs.Write.{write_rows, write_refusal}
+use Rattle.tokens.specs.Words.{tokens_of}
+use Rattle.scramble_parser.specs.Parse.{Reading, bad, read_answer, scramble_reading}
+use Rattle.scramble_parser.proofs.ParseLaws.{reading_listed}
+use Rattle.algorithm_parser.specs.Groups.{algorithm_reading}
+use Rattle.algorithm_parser.proofs.NumberLaws.{algorithm_listed}
+use Rattle.facelet_cube.specs.Apply.{apply_rows, apply_refusal}
+use Rattle.facelet_cube.specs.Cube.{cube_rows, cube_refusal, mask_rows, mask_refusal}
 use Rattle.table.proofs.TableLaws.{entries_most}
 use Rattle.generic_cube.specs.Sizes.{stickers}
 use Rattle.search_theory.specs.Search.{Reply, none, found, Task, passes, Best}
 use Rattle.search_theory.proofs.SearchLaws.{never_found, else_found}
 use Rattle.search_theory.proofs.PathFreeLaws.{sound, dfs_start}
 use Rattle.search_theory.specs.CubeSearch.{CubeSearch, task_of}
-use Rattle.pruning_table.specs.PruningTable.{PruningTableResult}
-use Rattle.ida_star.specs.IdaStar.{reply, search_refusal, outcome_value, outcome_of, IdaStarResult}
+use Rattle.pruning_table.specs.PruningTable.{early_rows, early_refusal, PruningTableResult}
+use Rattle.ida_star.specs.IdaStar.{reply, search_rows, search_refusal, outcome_value, outcome_of, IdaStarResult}
 use Rattle.ida_star.proofs.IdaStarLaws.{search_taken}
 use Rattle.cubesim.specs.Pack.{pack}
 use Rattle.theorems.specs.Searching.{reply_told, Ran}
-use Rattle.theorems.specs.Boundary.{Fits, NumberBack, ValueBack, SearchCall, reply_read, TableRead, SearchTold, SearchRead, TableThenSearchRead}
+use Rattle.theorems.specs.Boundary.{Fits, NumberBack, ValueBack, SearchCall, reply_read, TableRead, SearchTold, SearchRead, TableThenSearchRead, ToldOf, NumbersTold}
 use Rattle.theorems.proofs.BuildingLaws.{exact_result, built_admits}
 use Rattle.theorems.proofs.SearchingLaws.{ran_told, best_answer}
 
@@ -120,3 +131,26 @@ pub table_then_search_read : TableThenSearchRead
 table_then_search_read q starts table table' b f c z is undo work work' out out' r d y =
     search_read q work work' out out' r d y
     (built_admits q starts table table' (b / 256) (table_read q.n starts q.candidates q.depth table table' b f c z) is undo)
+
+-- ---- the number in an answer
+
+told_of : (n : ℕ) (r : Reading) (room : ℕ) → ((k at : ℕ) → r ≡ bad k at → number_of (refusal k) ≡ k) → ToldOf n r room
+unfolding read_answer
+told_of n r room h k at s e = rw (s, e) (h k at e, refl)
+
+pub numbers_told : NumbersTold
+unfolding cube_refusal sticker_refusal mask_refusal apply_refusal all_refusal write_refusal same_refusal early_refusal search_refusal
+numbers_told =
+    record {
+      of_cube = λ n long. number_told (cube_rows n long) tt refl;
+      of_sticker = λ n face i. number_told (sticker_rows n face i) tt refl;
+      of_mask = λ n cube ids keep. number_told (mask_rows n cube ids keep) tt refl;
+      of_list = λ n cube work moves. number_told (apply_rows n cube work moves) tt refl;
+      of_all_moves = λ n room. number_told (all_rows n room) tt refl;
+      of_scramble = λ n text room. told_of n (scramble_reading n text) room (reading_listed n (tokens_of text));
+      of_algorithm = λ n text room. told_of n (algorithm_reading n text) room (algorithm_listed n text);
+      of_writer = λ n moves room. number_told (write_rows n moves room) tt refl;
+      of_same_length = λ n moves room. number_told (same_rows n moves room) tt refl;
+      of_table = λ n starts moves depth. number_told (early_rows n starts moves depth) tt refl;
+      of_search = λ q work out. number_told (search_rows q work out) tt refl;
+    }
