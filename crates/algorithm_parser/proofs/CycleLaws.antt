@@ -6,54 +6,42 @@ use mathlib.Core.List.{List}
 use native.Mathlib.Omega.{arith}
 use lib.ListN.{length, get_or, take, drop}
 use lib.Dec.{eqb}
+use Rattle.std.specs.Prelude.{Result, Ok, Err}
 use borrow.Author.Tests.{eq-eqb, ne_eqb}
 use Rattle.tokens.specs.Words.{group_signs, is_sign}
-use Rattle.tokens.specs.Token.{read_token}
+use Rattle.tokens.specs.Token.{fault, read_token}
 use Rattle.tokens.specs.Inner.{Found}
-use Rattle.tokens.specs.declared.Token.{Token}
-use Rattle.tokens.specs.declared.Token.TheVariants.{Is, Not}
+use Rattle.tokens.specs.declared.Fault.{Fault}
 use Rattle.move_lists.proofs.ListLaws.{good_turned}
 use Rattle.algorithm_parser.specs.Algorithm.{Alg, nothing, expand}
 use Rattle.algorithm_parser.specs.Groups.{Outcome, means, wrong, and_then, front, opening, other, token, sort_of, token_then, word_then, round_end, square_end, paired, second_then, group_then, sequence_at, group_at}
 use Rattle.algorithm_parser.specs.Inner.{Filled, Placed, Behind, Told, token_alone, token_at, Laid}
-use Rattle.algorithm_parser.specs.declared.Part.{Part}
-use Rattle.algorithm_parser.specs.declared.Part.TheVariants.{Read, Bad}
+use Rattle.algorithm_parser.specs.declared.Read.{Read}
 use Rattle.algorithm_parser.proofs.ReaderLaws.{word_of, word_ends, Sound, Fine, at_word, at_group, at_fine, group_at_fine}
 use Rattle.algorithm_parser.proofs.RoomLaws.{fill_none, fill_then, fill_placed}
+use Rattle.algorithm_parser.proofs.TellingLaws.{read_to}
 
 -- ---- what was told, taken apart
 
--- a part is no other way than read or refused
-abbrev pub Unread : Part → Type 0
-Unread r = (e k : ℕ) → r ≡ Read e k → ⊥
-
-pub unread : {r : Part} {k p : ℕ} → r ≡ Bad k p → Unread r
-unread x e c y = let z : ◌≡◌ {A = ℕ} 0 1 = cc in omega arith
-
 module _ (cap : ℕ) (out : List ℕ) (j : ℕ) where
-  pub told_read : (o : Outcome) (new : List ℕ) (e k : ℕ) → Told cap out j o new (Read e k) → (a : Alg) × (o ≡ means a e) × Filled cap out j (expand a) new k
-  told_read (means a e') new e k t = (a, ap (means a) (sym t.0), t.1)
-  told_read (wrong a b) new e k t = absurd t
-
-  pub told_bad : (o : Outcome) (new : List ℕ) (k p : ℕ) → Told cap out j o new (Bad k p) → o ≡ wrong k p
-  told_bad (means a e) new k p t = absurd t
-  told_bad (wrong k' p') new k p t = let x = t.0 in let y = t.1 in cc
+  pub told_read : (o : Outcome) (new : List ℕ) {r : Read} → Told cap out j o new (Ok r) → (a : Alg) × (o ≡ means a r.end) × Filled cap out j (expand a) new r.next
+  told_read (means a e') new t = (a, ap (means a) (sym t.0), t.1)
+  told_read (wrong a b) new t = absurd t
 
   -- what is refused is refused wherever the output stands
-  told_wrong : (o : Outcome) (new : List ℕ) (r : Part) → Unread r → Told cap out j o new r
-      → (k : ℕ) × (p : ℕ) × (o ≡ wrong k p) × ((out' : List ℕ) (j' : ℕ) → Told cap out' j' (wrong k p) new r)
-  told_wrong o new (Read e k) u t = absurd (u e k refl)
-  told_wrong (means a e) new (Bad k p) u t = absurd t
-  told_wrong (wrong k p) new (Bad k' p') u t = (k, p, refl, λ out' j'. t)
+  pub told_bad : (o : Outcome) (new : List ℕ) {f : Fault} → Told cap out j o new (Err f)
+      → (k : ℕ) × (p : ℕ) × (o ≡ wrong k p) × (f ≡ fault k p)
+  told_bad (means a e) new t = absurd t
+  told_bad (wrong k p) new t = (k, p, refl, t)
 
 -- one part in front of another: what is told of the second is told of both
 told_front : (cap : ℕ) (out : List ℕ) (j : ℕ) (b : Alg) (o : Outcome) {mid : List ℕ} {k : ℕ} → Placed cap out j → Filled cap out j (expand b) mid k
-    → (new : List ℕ) (r : Part) → Told cap mid k o new r → Told cap out j (front b o) new r
+    → (new : List ℕ) (r : Result Read Fault) → Told cap mid k o new r → Told cap out j (front b o) new r
 unfolding expand
-told_front cap out j b (means a e) p f new (Read end next) t = (t.0, fill_then p f t.1)
-told_front cap out j b (means a e) p f new (Bad k q) t = t
-told_front cap out j b (wrong k q) p f new (Read end next) t = t
-told_front cap out j b (wrong k q) p f new (Bad k' q') t = t
+told_front cap out j b (means a e) p f new (Ok r) t = (t.0, fill_then p f t.1)
+told_front cap out j b (means a e) p f new (Err g) t = t
+told_front cap out j b (wrong k q) p f new (Ok r) t = t
+told_front cap out j b (wrong k q) p f new (Err g) t = t
 
 -- ---- a sequence, one word on
 
@@ -70,9 +58,9 @@ unfolding sort_of
 sort_token b t s = rw (t, s)
 
 -- a token in front of the rest, as a group stands in front of it
-token_then_lem : (t : Token) (s e : ℕ) (rest : ℕ → Outcome) → token_then t s (rest e) ≡ and_then (token_alone t s e) (λ a d. front a (rest d))
-token_then_lem (Is c) s e rest = refl
-token_then_lem (Not k p) s e rest = refl
+token_then_lem : (t : Result ℕ Fault) (s e : ℕ) (rest : ℕ → Outcome) → token_then t s (rest e) ≡ and_then (token_alone t s e) (λ a d. front a (rest d))
+token_then_lem (Ok c) s e rest = refl
+token_then_lem (Err f) s e rest = refl
 
 module _ (n : ℕ) (text : List ℕ) (left : ℕ) {i s e : ℕ} (f : Found group_signs text i s e) where
   module _ (t : (eqb (get_or text s 0) 40 || eqb (get_or text s 0) 91) ≡ true) where
@@ -105,10 +93,7 @@ pub record Going (n : ℕ) (text : List ℕ) (left i cap : ℕ) (out₀ : List �
   pub within : at ≤ length text
   pub long : length out ≡ length out₀
   pub placed : Placed cap out next
-  pub tells : (new : List ℕ) (r : Part) → Told cap out next (sequence_at n text left at) new r → Told cap out₀ j (sequence_at n text left i) new r
-
-pub go_none : {n : ℕ} {text : List ℕ} {left i cap : ℕ} {out : List ℕ} {j : ℕ} → i ≤ length text → Placed cap out j → Going n text left i cap out j out i j
-go_none h p = record { from = omega arith; within = h; long = refl; placed = p; tells = λ new r t. t }
+  pub tells : (new : List ℕ) (r : Result Read Fault) → Told cap out next (sequence_at n text left at) new r → Told cap out₀ j (sequence_at n text left i) new r
 
 module _ {n : ℕ} {text : List ℕ} {left i cap : ℕ} {out₀ : List ℕ} {j : ℕ} {out : List ℕ} {at next : ℕ} (g : Going n text left i cap out₀ j out at next) where
   expand_nothing : Filled cap out next (expand nothing) out next
@@ -116,49 +101,44 @@ module _ {n : ℕ} {text : List ℕ} {left i cap : ℕ} {out₀ : List ℕ} {j :
   expand_nothing = fill_none g.placed.most
 
   -- it ends
-  pub go_end : {s : ℕ} → sequence_at n text left at ≡ means nothing s → Told cap out₀ j (sequence_at n text left i) out (Read s next)
-  go_end {s} q = g.tells out (Read s next) (subst (λ (o : Outcome). Told cap out next o out (Read s next)) (sym q) (refl, expand_nothing))
+  pub go_end : {s : ℕ} → sequence_at n text left at ≡ means nothing s → Told cap out₀ j (sequence_at n text left i) out (Ok (read_to s next))
+  go_end {s} q = g.tells out (Ok (read_to s next)) (subst (λ (o : Outcome). Told cap out next o out (Ok (read_to s next))) (sym q) (refl, expand_nothing))
 
-  pub go_wrong : {k p : ℕ} → sequence_at n text left at ≡ wrong k p → Told cap out₀ j (sequence_at n text left i) out (Bad k p)
-  go_wrong {k} {p} q = g.tells out (Bad k p) (subst (λ (o : Outcome). Told cap out next o out (Bad k p)) (sym q) (refl, refl))
+  pub go_wrong : {k p : ℕ} → sequence_at n text left at ≡ wrong k p → {f : Fault} → f ≡ fault k p → Told cap out₀ j (sequence_at n text left i) out (Err f)
+  go_wrong q {f} z = g.tells out (Err f) (subst (λ (o : Outcome). Told cap out next o out (Err f)) (sym q) z)
 
   -- a group or a token in front of the rest
-  module _ (o : Outcome) (q : sequence_at n text left at ≡ and_then o (λ a d. front a (sequence_at n text left d))) (new : List ℕ) {r : Part}
-      (t : Told cap out next o new r) where
-    pub go_bad : Unread r → Told cap out₀ j (sequence_at n text left i) new r
-    go_bad u =
-        let w = told_wrong cap out next o new r u t in
-        g.tells new r (subst (λ (x : Outcome). Told cap out next x new r) (sym (q ∙ ap (λ (x : Outcome). and_then x (λ a d. front a (sequence_at n text left d))) w.2))
-        (w.3 out next))
+  module _ (o : Outcome) (q : sequence_at n text left at ≡ and_then o (λ a d. front a (sequence_at n text left d))) (new : List ℕ) where
+    pub go_bad : (f : Fault) → Told cap out next o new (Err f) → Told cap out₀ j (sequence_at n text left i) new (Err f)
+    go_bad f t =
+        let w = told_bad cap out next o new t in
+        g.tells new (Err f) (subst (λ (x : Outcome). Told cap out next x new (Err f)) (sym (q ∙ ap (λ (x : Outcome). and_then x (λ a d. front a (sequence_at n text left d))) w.2)) w.3)
 
-    pub go_more : {e k : ℕ} → r ≡ Read e k → at ≤ e → e ≤ length text → Going n text left i cap out₀ j new e k
-    go_more {e} {k} x l m =
-        let w = told_read cap out next o new e k (subst (Told cap out next o new) x t) in
-        let p : sequence_at n text left at ≡ front w.0 (sequence_at n text left e) = q ∙ ap (λ (y : Outcome). and_then y (λ a d. front a (sequence_at n text left d))) w.1 in
+    pub go_more : (r : Read) → Told cap out next o new (Ok r) → at ≤ r.end → r.end ≤ length text → Going n text left i cap out₀ j new r.end r.next
+    go_more r t l m =
+        let w = told_read cap out next o new t in
+        let p : sequence_at n text left at ≡ front w.0 (sequence_at n text left r.end) = q ∙ ap (λ (y : Outcome). and_then y (λ a d. front a (sequence_at n text left d))) w.1 in
         record {
           from = omega (arith, g.from);
           within = m;
           long = w.2.long ∙ g.long;
           placed = fill_placed g.placed w.2;
           tells = λ last y z. g.tells last y (subst (λ (v : Outcome). Told cap out next v last y) (sym p)
-              (told_front cap out next w.0 (sequence_at n text left e) g.placed w.2 last y z));
+              (told_front cap out next w.0 (sequence_at n text left r.end) g.placed w.2 last y z));
         }
 
 -- where a token or a group ends
-pub token_end_lem : (cap : ℕ) (out : List ℕ) (j : ℕ) (t : Token) (s e : ℕ) (new : List ℕ) {r : Part} {d k : ℕ} → r ≡ Read d k → Told cap out j (token_alone t s e) new r → d ≡ e
-token_end_lem cap out j t s e new {r} {d} {k} x y = go t d k (subst (Told cap out j (token_alone t s e) new) x y)
-  where
-    go : (t : Token) (d k : ℕ) → Told cap out j (token_alone t s e) new (Read d k) → d ≡ e
-    go (Is c) d k z = z.0
-    go (Not a b) d k z = absurd z
+pub token_end_lem : (cap : ℕ) (out : List ℕ) (j : ℕ) (t : Result ℕ Fault) (s e : ℕ) (new : List ℕ) (r : Read) → Told cap out j (token_alone t s e) new (Ok r) → r.end ≡ e
+token_end_lem cap out j (Ok c) s e new r z = z.0
+token_end_lem cap out j (Err f) s e new r z = absurd z
 
 pub fine_means : (n : ℕ) (text : List ℕ) (lo : ℕ) {o : Outcome} {a : Alg} {e : ℕ} → o ≡ means a e → Fine n text lo o → Sound n text lo a e
 fine_means n text lo q f = subst (Fine n text lo) q f
 
-pub group_end : (n : ℕ) (text : List ℕ) (left s cap : ℕ) (out : List ℕ) (j : ℕ) (new : List ℕ) {r : Part} {e k : ℕ} → s < length text → r ≡ Read e k
-    → Told cap out j (group_at n text left s) new r → (s + 1 ≤ e) × (e ≤ length text)
-group_end n text left s cap out j new {r} {e} {k} h x t =
-    let w = told_read cap out j (group_at n text left s) new e k (subst (Told cap out j (group_at n text left s) new) x t) in
+pub group_end : (n : ℕ) (text : List ℕ) (left s cap : ℕ) (out : List ℕ) (j : ℕ) (new : List ℕ) (r : Read) → s < length text
+    → Told cap out j (group_at n text left s) new (Ok r) → (s + 1 ≤ r.end) × (r.end ≤ length text)
+group_end n text left s cap out j new r h t =
+    let w = told_read cap out j (group_at n text left s) new t in
     let f = fine_means n text (s + 1) w.1 (group_at_fine n text left s h) in
     (f.from, f.within)
 
@@ -171,10 +151,10 @@ pub record Part_read (n : ℕ) (text : List ℕ) (left i cap : ℕ) (out : List 
   pub from : i ≤ end
   pub within : end ≤ length text
 
-pub part_read : (n : ℕ) (text : List ℕ) (left i cap : ℕ) (out : List ℕ) (j : ℕ) (new : List ℕ) {r : Part} {e k : ℕ} → i ≤ length text → r ≡ Read e k
-    → Told cap out j (sequence_at n text left i) new r → Part_read n text left i cap out j new e k
-part_read n text left i cap out j new {r} {e} {k} h x t =
-    let w = told_read cap out j (sequence_at n text left i) new e k (subst (Told cap out j (sequence_at n text left i) new) x t) in
+pub part_read : (n : ℕ) (text : List ℕ) (left i cap : ℕ) (out : List ℕ) (j : ℕ) (new : List ℕ) (r : Read) → i ≤ length text
+    → Told cap out j (sequence_at n text left i) new (Ok r) → Part_read n text left i cap out j new r.end r.next
+part_read n text left i cap out j new r h t =
+    let w = told_read cap out j (sequence_at n text left i) new t in
     let f = fine_means n text i w.1 (at_fine n text left i h) in
     record { meaning = w.0; read = w.1; laid = record { filled = w.2; turned = good_turned 1 n (expand w.0) f.good }; from = f.from; within = f.within }
 
@@ -189,18 +169,18 @@ pub parting_is : {b sign : ℕ} {r x : Bool} → sign ≡ b → r ≡ (eqb sign 
 parting_is {b} {sign} {r} {x} e q t = subst (λ (y : ℕ). (eqb y 44 || eqb y 58) ≡ x) e (sym q ∙ t)
 
 module _ (n : ℕ) (text : List ℕ) (left s cap : ℕ) (out : List ℕ) (j : ℕ) (h : s < length text) where
-  pub group_bad : (new : List ℕ) {r : Part} → Told cap out j (sequence_at n text left (s + 1)) new r → Unread r → Told cap out j (group_at n text left s) new r
-  group_bad new {r} t u =
-      let w = told_wrong cap out j (sequence_at n text left (s + 1)) new r u t in
-      subst (λ (o : Outcome). Told cap out j o new r)
+  pub group_bad : (new : List ℕ) (f : Fault) → Told cap out j (sequence_at n text left (s + 1)) new (Err f) → Told cap out j (group_at n text left s) new (Err f)
+  group_bad new f t =
+      let w = told_bad cap out j (sequence_at n text left (s + 1)) new t in
+      subst (λ (o : Outcome). Told cap out j o new (Err f))
       (sym (at_group n text left s h ∙ ap (λ (o : Outcome). and_then o (λ a e. group_then (eqb (get_or text s 0) 40) text a e (sequence_at n text left))) w.2))
-      (w.3 out j)
+      w.3
 
   module _ {mid : List ℕ} {end k : ℕ} (q : Part_read n text left (s + 1) cap out j mid end k) where
     group_is : group_at n text left s ≡ group_then (eqb (get_or text s 0) 40) text q.meaning end (sequence_at n text left)
     group_is = at_group n text left s h ∙ ap (λ (o : Outcome). and_then o (λ a e. group_then (eqb (get_or text s 0) 40) text a e (sequence_at n text left))) q.read
 
-    pub group_round : (new : List ℕ) (r : Part) → get_or text s 0 ≡ 40 → Told cap out j (round_end text q.meaning end) new r → Told cap out j (group_at n text left s) new r
+    pub group_round : (new : List ℕ) (r : Result Read Fault) → get_or text s 0 ≡ 40 → Told cap out j (round_end text q.meaning end) new r → Told cap out j (group_at n text left s) new r
     group_round new r x t =
         let e : eqb (get_or text s 0) 40 ≡ true = eq-eqb (get_or text s 0) 40 x in
         subst (λ (o : Outcome). Told cap out j o new r) (sym (group_is ∙ ap (λ (y : Bool). group_then y text q.meaning end (sequence_at n text left)) e)) t
@@ -211,21 +191,21 @@ module _ (n : ℕ) (text : List ℕ) (left s cap : ℕ) (out : List ℕ) (j : �
           let e : eqb (get_or text s 0) 40 ≡ false = ne_eqb (get_or text s 0) 40 x in
           group_is ∙ ap (λ (y : Bool). group_then y text q.meaning end (sequence_at n text left)) e
 
-      pub group_no_sign : (eqb (get_or text end 0) 44 || eqb (get_or text end 0) 58) ≡ false → Told cap out j (group_at n text left s) mid (Bad 16 end)
-      group_no_sign y = subst (λ (o : Outcome). Told cap out j o mid (Bad 16 end)) (sym (second_is ∙ ap (λ (t : Bool). second_then t text q.meaning end (sequence_at n text left)) y)) (refl, refl)
+      pub group_no_sign : (eqb (get_or text end 0) 44 || eqb (get_or text end 0) 58) ≡ false → {f : Fault} → f ≡ fault 16 end → Told cap out j (group_at n text left s) mid (Err f)
+      group_no_sign y {f} z = subst (λ (o : Outcome). Told cap out j o mid (Err f)) (sym (second_is ∙ ap (λ (t : Bool). second_then t text q.meaning end (sequence_at n text left)) y)) z
 
       module _ (y : (eqb (get_or text end 0) 44 || eqb (get_or text end 0) 58) ≡ true) where
         both_is : group_at n text left s ≡ and_then (sequence_at n text left (end + 1)) (λ b d. square_end text (paired (get_or text end 0) q.meaning b) d)
         both_is = second_is ∙ ap (λ (t : Bool). second_then t text q.meaning end (sequence_at n text left)) y
 
-        pub group_second_bad : (new : List ℕ) {r : Part} → Told cap mid k (sequence_at n text left (end + 1)) new r → Unread r → Told cap out j (group_at n text left s) new r
-        group_second_bad new {r} t u =
-            let w = told_wrong cap mid k (sequence_at n text left (end + 1)) new r u t in
-            subst (λ (o : Outcome). Told cap out j o new r)
+        pub group_second_bad : (new : List ℕ) (f : Fault) → Told cap mid k (sequence_at n text left (end + 1)) new (Err f) → Told cap out j (group_at n text left s) new (Err f)
+        group_second_bad new f t =
+            let w = told_bad cap mid k (sequence_at n text left (end + 1)) new t in
+            subst (λ (o : Outcome). Told cap out j o new (Err f))
             (sym (both_is ∙ ap (λ (o : Outcome). and_then o (λ b d. square_end text (paired (get_or text end 0) q.meaning b) d)) w.2))
-            (w.3 out j)
+            w.3
 
-        pub group_square : {all : List ℕ} (new : List ℕ) {d m : ℕ} (sign : ℕ) (r : Part) (p : Part_read n text left (end + 1) cap mid k all d m) → sign ≡ get_or text end 0
+        pub group_square : {all : List ℕ} (new : List ℕ) {d m : ℕ} (sign : ℕ) (r : Result Read Fault) (p : Part_read n text left (end + 1) cap mid k all d m) → sign ≡ get_or text end 0
             → Told cap out j (square_end text (paired sign q.meaning p.meaning) d) new r → Told cap out j (group_at n text left s) new r
         group_square {all} new {d} {m} sign r p z t =
             subst (λ (o : Outcome). Told cap out j o new r)

@@ -8,6 +8,7 @@ use native.Mathlib.Numerals.{add-one}
 use lib.ListN.{length, get_or, take, drop, length-drop}
 use lib.Seq.{get_or-take, get_or-drop, length-take-le}
 use lib.Dec.{eqb}
+use Rattle.std.specs.Prelude.{Result, Ok, Err}
 use borrow.Author.Tests.{eqb-true}
 use Rattle.ground.specs.Choice.{between}
 use Rattle.ground.proofs.ChoiceLaws.{bool_cases, between_bounds}
@@ -15,8 +16,7 @@ use Rattle.generic_cube.proofs.CodeLaws.{AllGood}
 use Rattle.tokens.specs.Words.{group_signs, Run, words_from}
 use Rattle.tokens.specs.Token.{read_token}
 use Rattle.tokens.specs.Inner.{Found}
-use Rattle.tokens.specs.declared.Token.{Token}
-use Rattle.tokens.specs.declared.Token.TheVariants.{Is, Not}
+use Rattle.tokens.specs.declared.Fault.{Fault}
 use Rattle.tokens.proofs.WordLaws.{first_word}
 use Rattle.tokens.proofs.TokenLaws.{token_good, stands}
 use Rattle.move_lists.proofs.ListLaws.{good_append, good_inverse}
@@ -88,7 +88,7 @@ good_paired n sign a b g h =
     (λ t. rw t (good_append 1 n _ _ ab (good_append 1 n _ _ a⁻ (good_inverse 1 n (expand b) h))))
     (λ t. rw t (good_append 1 n _ _ ab a⁻))
 
-good_token : (n : ℕ) (t : List ℕ) (c : ℕ) → read_token n t ≡ Is c → AllGood 1 n (expand (move c))
+good_token : (n : ℕ) (t : List ℕ) (c : ℕ) → read_token n t ≡ Ok c → AllGood 1 n (expand (move c))
 unfolding expand AllGood
 good_token n t c e = (good_wider n c (token_good n t c e), tt)
 
@@ -114,9 +114,9 @@ module _ (n : ℕ) (text : List ℕ) where
       record { from = omega (arith, s.from); within = s.within; good = good_both n a b g s.good }
   fine_front lo mid a (wrong k p) h g s = tt
 
-  fine_token : (lo e : ℕ) (t : List ℕ) (r : Token) (s : ℕ) (o : Outcome) → read_token n t ≡ r → lo ≤ e → Fine n text e o → Fine n text lo (token_then r s o)
-  fine_token lo e t (Is c) s o q h g = fine_front lo e (move c) o h (good_token n t c q) g
-  fine_token lo e t (Not k p) s o q h g = tt
+  fine_token : (lo e : ℕ) (t : List ℕ) (r : Result ℕ Fault) (s : ℕ) (o : Outcome) → read_token n t ≡ r → lo ≤ e → Fine n text e o → Fine n text lo (token_then r s o)
+  fine_token lo e t (Ok c) s o q h g = fine_front lo e (move c) o h (good_token n t c q) g
+  fine_token lo e t (Err f) s o q h g = tt
 
   fine_word : {i s e : ℕ} (sort : Sort) (left : ℕ) (group rest : ℕ → Outcome) → Found group_signs text i s e → Fine n text (s + 1) (group s)
       → ((d : ℕ) → d ≤ length text → Fine n text d (rest d)) → Fine n text i (word_then sort n left (word_of text s e) group rest)

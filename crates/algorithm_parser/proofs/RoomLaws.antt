@@ -5,8 +5,8 @@ use mathlib.Core.List.{List, [], ◌∷◌, ◌++◌, append_assoc, append-nil}
 use native.Mathlib.Omega.{arith}
 use lib.ListN.{length, get_or, take, drop, set, length-append, length-drop, length-set}
 use lib.Seq.{sets, sets-eq, length-take-le, take-take, take_at, drop_at, take-set-le, get_or-take, get_or-drop}
-use Rattle.ground.proofs.PutLaws.{Looped, loop_none, loop_more, loop_all, put_one, each_self, sets-append}
-use Rattle.ground.proofs.CopyLaws.{part_front}
+use Rattle.ground.proofs.PutLaws.{Looped, loop_none, loop_more, loop_all, put_one, each_self, sets-append, sets-front}
+use Rattle.ground.proofs.ListLaws.{part_front}
 use Rattle.generic_cube.specs.Code.{move_of}
 use Rattle.move_lists.specs.Lists.{Turned, inverse_of, inverse}
 use Rattle.move_lists.proofs.ListLaws.{length-inverse, inverse-next}
@@ -39,16 +39,6 @@ fill_then {cap} {out} {mid} {new} {vs} {ws} {j} {r} {s} p f g =
 
 pub fill_placed : {cap : ℕ} {out new vs : List ℕ} {j r : ℕ} → Placed cap out j → Filled cap out j vs new r → Placed cap new r
 fill_placed p f = record { most = omega (arith, f.next); short = omega (arith, f.long, p.short) }
-
--- ---- one code
-
-module _ {cap : ℕ} {out : List ℕ} {j c : ℕ} (p : Placed cap out j) where
-  pub fill_one : j < length out → Filled cap out j (c ∷ []) (set out j c) (j + 1)
-  fill_one h =
-      record { next = omega (arith, p.short); stored = λ r. refl; before = take-set-le j out j c (omega arith); long = length-set out j c }
-
-  pub fill_out : {r : ℕ} → length out ≤ j → r ≡ min (j + 1) cap → Filled cap out j (c ∷ []) out r
-  fill_out h e = record { next = e; stored = λ r. absurd (omega arith); before = refl; long = refl }
 
 -- ---- a list that stands
 
@@ -127,12 +117,15 @@ module _ {cap : ℕ} (wrap : List ℕ → List ℕ) (same : (vs : List ℕ) → 
             };
       }
 
--- there is room for the part where there is for the place behind it
-pub append_room : {cap : ℕ} {out : List ℕ} {j mid to r : ℕ} → Behind cap out j mid to → r ≡ min (to + (mid - j)) cap → r ≤ length out
-    → (j + (mid - j) ≤ to) × (to + (mid - j) ≤ length out)
-append_room b n h = (omega (arith, b.some, b.after), omega (arith, b.placed.short))
+-- ---- a part that is copied, and the loop that inverts one: its first k codes are stored
 
--- ---- the loops that copy and invert a part: its first k codes are stored
+pub copy_part : {out new : List ℕ} (j mid to : ℕ) → to + (mid - j) ≤ length out → mid ≤ to
+    → new ≡ take to out ++ take (mid - j) (drop j out) ++ drop (to + (mid - j)) out → Transferred (λ vs. vs) out j to (mid - j) new
+copy_part {out} {new} j mid to h l e =
+    let part = take (mid - j) (drop j out) in
+    let long : length part ≡ mid - j = length-take-le (mid - j) (drop j out) (omega (arith, length-drop j out)) in
+    let w : new ≡ sets out to part = e ∙ sym (sets-eq part out to (omega (arith, long)) ∙ ap (λ (k : ℕ). take to out ++ part ++ drop (to + k) out) long) in
+    record { before = ap (take to) w ∙ sets-front part out to; stored = λ t. w }
 
 pub record Moving (part xs out₀ : List ℕ) (to : ℕ) (out : List ℕ) (k : ℕ) : Type 0 where
   pub before : take to out ≡ take to out₀
@@ -159,17 +152,13 @@ module _ {part xs out₀ : List ℕ} {to : ℕ} {out : List ℕ} {k : ℕ} (g : 
   pub move_all : length xs ≤ k → Turned part → out ≡ sets out₀ to xs
   move_all h t = (loop_all (g.stored t) h).stored ∙ ap (sets out₀ to) (each_self xs)
 
--- the next code of a part, as it stands or turned back
+-- the next code of a part, turned back
 module _ (out₀ out : List ℕ) (j to size k : ℕ) (h : k < size) (under : j + size ≤ to) (room : to + size ≤ length out₀) where
   part_long : length (take size (drop j out₀)) ≡ size
   part_long = length-take-le size (drop j out₀) (omega (arith, length-drop j out₀))
 
   part_at : {xs : List ℕ} → Moving (take size (drop j out₀)) xs out₀ to out k → (i : ℕ) → i < size → get_or (take size (drop j out₀)) i 0 ≡ get_or out (j + i) 0
   part_at g i l = get_or-take size (drop j out₀) i 0 l ∙ get_or-drop j out₀ i 0 ∙ sym (move_under g (j + i) (omega arith))
-
-  pub copy_more : Moving (take size (drop j out₀)) (take size (drop j out₀)) out₀ to out k
-      → Moving (take size (drop j out₀)) (take size (drop j out₀)) out₀ to (set out (to + k) (get_or out (j + k) 0)) (k + 1)
-  copy_more g = move_more g (omega (arith, part_long)) (λ t. sym (part_at g k h))
 
   pub invert_more : {v : ℕ} → Moving (take size (drop j out₀)) (inverse (take size (drop j out₀))) out₀ to out k
       → (0 < (move_of (get_or out (j + (size - 1 - k)) 0)).turn → v ≡ inverse_of (get_or out (j + (size - 1 - k)) 0))

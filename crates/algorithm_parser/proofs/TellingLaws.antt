@@ -5,39 +5,34 @@ use mathlib.Core.Bool.{true, false}
 use mathlib.Core.List.{List, [], ◌∷◌, ◌++◌, append_assoc, append-nil}
 use native.Mathlib.Omega.{arith}
 use lib.ListN.{length, get_or}
+use Rattle.std.specs.Prelude.{Result, Ok, Err}
 use borrow.Author.Tests.{eq-eqb, ne_eqb}
-use Rattle.ground.specs.Choice.{pick, between}
-use Rattle.ground.proofs.ChoiceLaws.{bool_cases, between_bounds}
-use Rattle.tokens.specs.declared.Token.{Token}
-use Rattle.tokens.specs.declared.Token.TheVariants.{Is, Not}
+use Rattle.ground.specs.Choice.{between}
+use Rattle.ground.proofs.ChoiceLaws.{between_bounds}
+use Rattle.tokens.specs.declared.Fault.{Fault}
+use Rattle.tokens.specs.Token.{fault}
+use Rattle.scramble_parser.specs.Inner.{in_text}
 use Rattle.move_lists.specs.Lists.{inverse}
 use Rattle.algorithm_parser.specs.Algorithm.{Alg, repeated, copies, expand}
 use Rattle.algorithm_parser.specs.Groups.{round_end, square_end, paired}
 use Rattle.algorithm_parser.specs.Inner.{Filled, Placed, Behind, Standing, Appended, Told, token_alone, Laid, LaidBoth}
-use Rattle.algorithm_parser.specs.declared.Part.TheVariants.{Read, Bad}
+use Rattle.algorithm_parser.specs.declared.Read.{Read}
 use Rattle.algorithm_parser.proofs.RoomLaws.{fill_then, stands_filled, stands_before}
+
+-- where a part ends, and the place behind its moves
+abbrev pub read_to : ℕ → ℕ → Read
+read_to end next = record { end = end; next = next }
 
 -- ---- a token
 
-module _ (cap : ℕ) (out : List ℕ) (j s e : ℕ) {t : Token} where
-  pub token_put : {c : ℕ} {new : List ℕ} {r : ℕ} → Is c ≡ t → Filled cap out j (c ∷ []) new r → Told cap out j (token_alone t s e) new (Read e r)
+module _ (cap : ℕ) (out : List ℕ) (j s e : ℕ) where
+  pub token_put : (t : Result ℕ Fault) {c : ℕ} {new : List ℕ} {r : ℕ} → Ok c ≡ in_text s t → Filled cap out j (c ∷ []) new r
+      → Told cap out j (token_alone t s e) new (Ok (read_to e r))
   unfolding expand
-  token_put {c} {new} {r} q f = subst (λ (x : Token). Told cap out j (token_alone x s e) new (Read e r)) q (refl, f)
-
-  pub token_bad : {k p : ℕ} (new : List ℕ) → Not k p ≡ t → Told cap out j (token_alone t s e) new (Bad k (s + p))
-  token_bad {k} {p} new q = subst (λ (x : Token). Told cap out j (token_alone x s e) new (Bad k (s + p))) q (refl, refl)
+  token_put (Ok d) {c} {new} {r} q f = let w : c ≡ d = cc in (refl, subst (λ (x : ℕ). Filled cap out j (x ∷ []) new r) w f)
+  token_put (Err g) q f = let z : ◌≡◌ {A = ℕ} 0 1 = cc in absurd (omega arith)
 
 -- ---- the end of a round group
-
--- a byte's repeat, 0 for none, tells whether it is a digit 1 to 9
-repeat_digit : (b : ℕ) → (pick (between 49 57 b) (b - 48) 0 ≡ 0 → ⊥) → between 49 57 b ≡ true
-repeat_digit b h = bool_cases (between 49 57 b) (λ t. t) (λ t. absurd (h (rw t)))
-
-repeat_other : (b : ℕ) → pick (between 49 57 b) (b - 48) 0 ≡ 0 → between 49 57 b ≡ false
-repeat_other b =
-    bool_cases (between 49 57 b)
-    (λ t. let q = between_bounds 49 57 b t in rw t (λ h. absurd (omega (arith, q.0))))
-    (λ t h. t)
 
 copies_one : (a : Alg) → expand (repeated 1 a) ≡ expand a
 unfolding expand copies
@@ -48,29 +43,28 @@ unfolding expand copies
 copies_more k a h = let e : k ≡ suc (k - 1) = omega arith in ap (λ (m : ℕ). copies m (expand a)) e
 
 module _ {cap : ℕ} (text : List ℕ) (e : ℕ) {start : List ℕ} {j : ℕ} {a : Alg} {out : List ℕ} {next : ℕ} (l : Laid cap start j a out next) where
-  pub round_bad : (get_or text e 0 ≡ 41 → ⊥) → Told cap start j (round_end text a e) out (Bad 16 e)
+  pub round_bad : (get_or text e 0 ≡ 41 → ⊥) → {f : Fault} → f ≡ fault 16 e → Told cap start j (round_end text a e) out (Err f)
   unfolding round_end
-  round_bad h = rw (ne_eqb (get_or text e 0) 41 h) (refl, refl)
+  round_bad h q = rw (ne_eqb (get_or text e 0) 41 h) q
 
-  module _ (sign : get_or text e 0 ≡ 41) {times : ℕ} (d : times ≡ pick (between 49 57 (get_or text (e + 1) 0)) (get_or text (e + 1) 0 - 48) 0) where
-    pub round_once : times ≡ 0 → Told cap start j (round_end text a e) out (Read (e + 1) next)
+  module _ (sign : get_or text e 0 ≡ 41) where
+    pub round_once : between 49 57 (get_or text (e + 1) 0) ≡ false → Told cap start j (round_end text a e) out (Ok (read_to (e + 1) next))
     unfolding round_end
     round_once z =
-        rw (eq-eqb (get_or text e 0) 41 sign, repeat_other (get_or text (e + 1) 0) (sym d ∙ z))
-        (refl, subst (λ (vs : List ℕ). Filled cap start j vs out next) (sym (copies_one a)) l.filled)
+        rw (eq-eqb (get_or text e 0) 41 sign, z) (refl, subst (λ (vs : List ℕ). Filled cap start j vs out next) (sym (copies_one a)) l.filled)
 
-    pub round_more : {new : List ℕ} {r : ℕ} → Behind cap out j next next → (times ≡ 0 → ⊥) → Appended cap (copies (times - 1)) out j next next new r
-        → Told cap start j (round_end text a e) new (Read (e + 1 + 1) r)
+    pub round_more : {times : ℕ} {new : List ℕ} {r : ℕ} → between 49 57 (get_or text (e + 1) 0) ≡ true → times ≡ get_or text (e + 1) 0 - 48
+        → Behind cap out j next next → Appended cap (copies (times - 1)) out j next next new r
+        → Told cap start j (round_end text a e) new (Ok (read_to (e + 1 + 1) r))
     unfolding round_end
-    round_more {new} {r} b z p =
-        let digit = repeat_digit (get_or text (e + 1) 0) (λ w. z (d ∙ w)) in
-        let k : times ≡ get_or text (e + 1) 0 - 48 = d ∙ rw digit in
+    round_more {times} {new} {r} digit k b p =
+        let d = between_bounds 49 57 (get_or text (e + 1) 0) digit in
         let placed : Placed cap start j = record { most = omega (arith, b.some, b.placed.most); short = omega (arith, l.filled.long, b.placed.short) } in
         let f = fill_then placed l.filled (p.filled (expand a) l.turned (stands_filled l.filled)) in
         rw (eq-eqb (get_or text e 0) 41 sign, digit) (
           omega arith,
           subst (λ (vs : List ℕ). Filled cap start j vs new r)
-              (sym (copies_more times a (omega arith)) ∙ ap (λ (m : ℕ). expand (repeated m a)) k) f,
+              (sym (copies_more times a (omega (arith, d.0))) ∙ ap (λ (m : ℕ). expand (repeated m a)) k) f,
         )
 
 -- ---- the end of a square group
@@ -85,13 +79,13 @@ commutator_is sign a b h = rw (eq-eqb sign 44 h) (sym (append_assoc (expand a ++
 
 module _ {cap : ℕ} (text : List ℕ) (sign e : ℕ) {start : List ℕ} {j : ℕ} {a b : Alg} {mid : ℕ} {out : List ℕ} {next : ℕ}
     (l : LaidBoth cap start j a mid b out next) where
-  pub square_bad : (get_or text e 0 ≡ 93 → ⊥) → Told cap start j (square_end text (paired sign a b) e) out (Bad 16 e)
+  pub square_bad : (get_or text e 0 ≡ 93 → ⊥) → {f : Fault} → f ≡ fault 16 e → Told cap start j (square_end text (paired sign a b) e) out (Err f)
   unfolding square_end
-  square_bad h = rw (ne_eqb (get_or text e 0) 93 h) (refl, refl)
+  square_bad h q = rw (ne_eqb (get_or text e 0) 93 h) q
 
   module _ (shut : get_or text e 0 ≡ 93) (h : Behind cap out j mid next) {new : List ℕ} {back : ℕ} (p : Appended cap inverse out j mid next new back) where
     square_told : {last : List ℕ} {r : ℕ} → Filled cap start j (expand (paired sign a b)) last r
-        → Told cap start j (square_end text (paired sign a b) e) last (Read (e + 1) r)
+        → Told cap start j (square_end text (paired sign a b) e) last (Ok (read_to (e + 1) r))
     unfolding square_end
     square_told f = rw (eq-eqb (get_or text e 0) 93 shut) (refl, f)
 
@@ -110,11 +104,11 @@ module _ {cap : ℕ} (text : List ℕ) (sign e : ℕ) {start : List ℕ} {j : �
         l.second.filled.before l.second.filled.long (stands_filled l.first.filled) in
         fill_then placed (fill_then placed l.first.filled l.second.filled) (p.filled (expand a) l.first.turned s)
 
-    pub square_conjugate : (sign ≡ 44 → ⊥) → Told cap start j (square_end text (paired sign a b) e) new (Read (e + 1) back)
+    pub square_conjugate : (sign ≡ 44 → ⊥) → Told cap start j (square_end text (paired sign a b) e) new (Ok (read_to (e + 1) back))
     square_conjugate z = square_told (subst (λ (vs : List ℕ). Filled cap start j vs new back) (sym (conjugate_is sign a b z)) three)
 
     pub square_commutator : sign ≡ 44 → length new ≡ length out → {last : List ℕ} {r : ℕ} → Appended cap inverse new mid next back last r
-        → Told cap start j (square_end text (paired sign a b) e) last (Read (e + 1) r)
+        → Told cap start j (square_end text (paired sign a b) e) last (Ok (read_to (e + 1) r))
     square_commutator z long {last} {r} q =
         let s : Standing cap new mid next (expand b)
         = stands_before {out = out} {new = new} {to = next} h.placed.short (omega arith) p.before long (stands_filled l.second.filled) in

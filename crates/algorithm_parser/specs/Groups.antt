@@ -1,13 +1,13 @@
 -- The grammar of algorithms: a sequence holds groups and a group holds sequences. A text is read from left to right, so that the first error
 -- met is the first by place, and at one place a token's own, which has the lower number. `get_or text i 0` is the byte at i, 0 past the end.
-use Rattle.std.specs.Prelude.{ℕ, zero, suc, ◌+◌, ◌-◌, ◌*◌, Bool, true, false, ◌||◌, List, [], ◌∷◌, length, get_or, eqb}
+use Rattle.std.specs.Prelude.{ℕ, zero, suc, ◌+◌, ◌-◌, ◌*◌, Bool, true, false, ◌||◌, List, [], ◌∷◌, Result, Ok, Err, length, get_or, eqb}
 use Rattle.ground.specs.Choice.{pick, between}
+use Rattle.ground.specs.Refusals.{number_of}
 use Rattle.tokens.specs.Words.{group_signs, is_sign, Run, words_from}
 use Rattle.tokens.specs.Token.{read_token}
-use Rattle.tokens.specs.declared.Token.{Token}
-use Rattle.tokens.specs.declared.Token.TheVariants.{Is, Not}
+use Rattle.tokens.specs.declared.Fault.{Fault}
 use Rattle.scramble_parser.specs.Parse.{Reading, codes, bad, ReadResult}
-use Rattle.scramble_parser.specs.declared.Parsed.{Parsed}
+use Rattle.scramble_parser.specs.declared.ParseError.{ParseError}
 use Rattle.algorithm_parser.specs.Algorithm.{Alg, nothing, move, both, repeated, commutator, conjugate, expand}
 
 -- what a part of a text reads as: its meaning and the place where it ends; or a refusal and its place
@@ -37,9 +37,9 @@ unfoldable pub sort_of : ℕ → Sort
 sort_of b = pick (eqb b 40 || eqb b 91) opening (pick (is_sign group_signs b) other token)
 
 -- a token that starts at `start`, in front of what follows it
-abbrev pub token_then : Token → ℕ → Outcome → Outcome
-token_then (Is c) start rest = front (move c) rest
-token_then (Not k place) start rest = wrong k (start + place)
+abbrev pub token_then : Result ℕ Fault → ℕ → Outcome → Outcome
+token_then (Ok c) start rest = front (move c) rest
+token_then (Err f) start rest = wrong (number_of f.refusal) (start + f.place)
 
 -- a group one level deeper, or a token, in front of the rest; 17: no level is left; any other sign ends the sequence before it
 abbrev pub word_then : Sort → ℕ → ℕ → Run → (ℕ → Outcome) → (ℕ → Outcome) → Outcome
@@ -129,5 +129,5 @@ abbrev pub algorithm_reading : ℕ → List ℕ → Reading
 algorithm_reading n text = expanded (read_algorithm n text)
 
 -- what `parse_algorithm` answers and leaves in its output: what `parse_scramble` does with another reading
-abbrev pub AlgorithmResult : ℕ → List ℕ → List ℕ → List ℕ → Parsed → Type 0
+abbrev pub AlgorithmResult : ℕ → List ℕ → List ℕ → List ℕ → Result ℕ ParseError → Type 0
 AlgorithmResult n text out out' p = ReadResult n (algorithm_reading n text) out out' p

@@ -1,15 +1,15 @@
 -- Inner contracts: moves that are counted no further than a cap, and stored where there is room.
-use Rattle.std.specs.Prelude.{ℕ, ◌+◌, ◌-◌, ◌≤◌, ◌<◌, min, ◌≡◌, true, List, length, take, drop}
+use Rattle.std.specs.Prelude.{ℕ, ◌+◌, ◌-◌, ◌≤◌, ◌<◌, min, ◌≡◌, true, false, List, Option, None, Some, Result, Ok, Err, length, take, drop}
 use Rattle.std.proofs.lemmas.List.Edits.{sets}
+use Rattle.ground.specs.Choice.{between}
+use Rattle.ground.specs.Refusals.{number_of}
 use Rattle.generic_cube.specs.Sizes.{sized}
-use Rattle.tokens.specs.Token.{read_token}
-use Rattle.tokens.specs.declared.Token.{Token}
-use Rattle.tokens.specs.declared.Token.TheVariants.{Is, Not}
+use Rattle.tokens.specs.Token.{fault, read_token}
+use Rattle.tokens.specs.declared.Fault.{Fault}
 use Rattle.move_lists.specs.Lists.{Turned}
 use Rattle.algorithm_parser.specs.Algorithm.{Alg, move, expand}
 use Rattle.algorithm_parser.specs.Groups.{Outcome, means, wrong}
-use Rattle.algorithm_parser.specs.declared.Part.{Part}
-use Rattle.algorithm_parser.specs.declared.Part.TheVariants.{Read, Bad}
+use Rattle.algorithm_parser.specs.declared.Read.{Read}
 
 -- the list vs goes to the place j of `out`, and r is the place behind it, as far as the cap: it is stored if there is room for all of it, and what
 -- stands before j stays
@@ -49,17 +49,22 @@ pub record Transferred (wrap : List ℕ → List ℕ) (out : List ℕ) (j to siz
 
 -- ---- the readers
 
+-- the repeat that a byte asks for: a digit 1 to 9
+abbrev pub Repeat : ℕ → Option ℕ → Type 0
+Repeat b None = between 49 57 b ≡ false
+Repeat b (Some times) = (between 49 57 b ≡ true) × (times ≡ b - 48)
+
 -- what a reader tells of an outcome, and leaves in the output
-abbrev pub Told : ℕ → List ℕ → ℕ → Outcome → List ℕ → Part → Type 0
-Told cap out j (means a e) new (Read end next) = (end ≡ e) × Filled cap out j (expand a) new next
-Told cap out j (means a e) new (Bad k p) = ⊥
-Told cap out j (wrong k p) new (Read end next) = ⊥
-Told cap out j (wrong k p) new (Bad k' p') = (k' ≡ k) × (p' ≡ p)
+abbrev pub Told : ℕ → List ℕ → ℕ → Outcome → List ℕ → Result Read Fault → Type 0
+Told cap out j (means a e) new (Ok r) = (r.end ≡ e) × Filled cap out j (expand a) new r.next
+Told cap out j (means a e) new (Err f) = ⊥
+Told cap out j (wrong k p) new (Ok r) = ⊥
+Told cap out j (wrong k p) new (Err f) = f ≡ fault k p
 
 -- what a token that stands from s to e reads as
-abbrev pub token_alone : Token → ℕ → ℕ → Outcome
-token_alone (Is c) s e = means (move c) e
-token_alone (Not k place) s e = wrong k (s + place)
+abbrev pub token_alone : Result ℕ Fault → ℕ → ℕ → Outcome
+token_alone (Ok c) s e = means (move c) e
+token_alone (Err f) s e = wrong (number_of f.refusal) (s + f.place)
 
 abbrev pub token_at : ℕ → List ℕ → ℕ → ℕ → Outcome
 token_at n text s e = token_alone (read_token n (take (e - s) (drop s text))) s e

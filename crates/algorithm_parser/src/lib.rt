@@ -1,266 +1,206 @@
 // Algorithms as coaches write them, with groups: (A)3, [A, B], [A: B]. No part of the source; its scrambles have no groups.
 #![tactic(auto)]
 
-ghost use Rattle.std.specs.Prelude.{◌≡◌, true, ◌||◌, List, [], ℕ, ◌-◌, ◌≤◌, ◌<◌, length, eqb};
-ghost use Rattle.ground.specs.Choice.{pick, between};
+ghost use Rattle.std.specs.Prelude.{◌≡◌, true, ◌||◌, List, [], ℕ, ◌≤◌, ◌<◌, length, eqb};
 ghost use Rattle.generic_cube.specs.Sizes.{sized};
 ghost use Rattle.algorithm_parser.specs.Algorithm.{Alg};
 ghost use Rattle.algorithm_parser.specs.Groups.{round_end, square_end, paired, sequence_at, group_at, AlgorithmResult};
-ghost use Rattle.algorithm_parser.specs.Inner.{Behind, token_at, Told, Asked, AskedToken, Laid, LaidBoth, Written};
+ghost use Rattle.algorithm_parser.specs.Inner.{Repeat, Behind, token_at, Told, Asked, AskedToken, Laid, LaidBoth, Written};
 
 use ground::codes::MoveCode;
-use scramble_parser::Parsed;
-use tokens::{Next, Token};
+use ground::refusals::Refusal;
+use scramble_parser::ParseError;
+use tokens::Fault;
+use tokens::words::Word;
 
 pub mod moves;
 
-// How a part of a text reads: where it ends, and the place behind its moves in the output; or the number of a refusal and its place.
+// How a part of a text reads: where it ends, and the place behind its moves in the output.
+#[derive(Clone, Copy, Debug, PartialEq, Eq)]
+pub struct Read {
+    pub end: usize,
+    pub next: usize,
+}
+
+// What is read: a text for a size, and the cap, the place that no count passes.
 #[derive(Clone, Copy)]
-pub enum Part {
-    Read { end: usize, next: usize },
-    Bad(u8, usize),
+pub struct Source<'a> {
+    pub n: usize,
+    pub text: &'a [u8],
+    pub cap: usize,
 }
 
 // Whether a sign opens a group.
 fn is_opening(b: u8) -> bool
     ensures { result ≡ (eqb b 40 || eqb b 91) }
 {
-    if b == 40 {
-        return true;
-    }
-    b == 91
+    b == b'(' || b == b'['
 }
 
 // Whether a sign parts the two sequences of a square group.
 fn is_parting(b: u8) -> bool
     ensures { result ≡ (eqb b 44 || eqb b 58) }
 {
-    if b == 44 {
-        return true;
-    }
-    b == 58
+    b == b',' || b == b':'
 }
 
-// How often a round group is repeated, by the byte behind its `)`; 0 where that is no digit 1 to 9.
-fn repeat(b: u8) -> u8
-    ensures { result ≡ pick (between 49 57 b) (b - 48) 0 }
+// How often a round group is repeated, by the byte behind its `)`, if that is a digit 1 to 9.
+#[tactic(auto, unfolding(ground::specs::Choice::between))]
+fn repeat(b: u8) -> Option<u8>
+    ensures { Repeat b result }
 {
-    if b < 49 {
-        return 0;
+    match b {
+        b'1'..=b'9' => Some(b - b'0'),
+        _ => None,
     }
-    if 57 < b {
-        return 0;
-    }
-    b - 48
 }
 
-// The token from s to e, whose move goes to the place j.
-fn token(
-    n: usize,
-    text: &[u8],
-    s: usize,
-    e: usize,
-    out: &mut [MoveCode],
-    j: usize,
-    cap: usize,
-) -> Part
-    requires { AskedToken n text.now s e cap out.old j }
-    ensures { Told cap out.old j (token_at n text.now s e) out.new result }
+// The token that a word is, whose move goes to the place j.
+fn token(source: Source, word: Word, out: &mut [MoveCode], j: usize) -> Result<Read, Fault>
+    requires { AskedToken source.n source.text.now word.start word.end source.cap out.old j }
+    ensures { Told source.entry.cap out.old j (token_at source.entry.n source.entry.text.now word.start word.end) out.new result }
 {
-    match tokens::read_token(n, &text[s..e]) {
-        Token::Is(code) => {
-            let next = moves::put(out, j, code, cap);
-            return Part::Read { end: e, next };
-        }
-        Token::Not(number, place) => {
-            let at = s + place;
-            return Part::Bad(number, at);
-        }
-    }
+    let code = scramble_parser::read_word(source.n, source.text, word)?;
+    let next = moves::put(out, j, code, source.cap);
+    Ok(Read {
+        end: word.end,
+        next,
+    })
 }
 
-// The end of a round group, whose sequence was put from j to next: `)`, and the copies that its repeat asks for.
-fn round(text: &[u8], end: usize, out: &mut [MoveCode], j: usize, next: usize, cap: usize) -> Part
-    requires { Behind cap out.old j next next × (end ≤ length text.now) }
-    ensures { (start : List ℕ) (a : Alg) → Laid cap start j a out.old next → Told cap start j (round_end text.now a end) out.new result }
+// The end of a round group, whose sequence was read and put from j on: `)`, and the copies that its repeat asks for.
+fn round(source: Source, read: Read, out: &mut [MoveCode], j: usize) -> Result<Read, Fault>
+    requires { Behind source.cap out.old j read.next read.next × (read.end ≤ length source.text.now) }
+    ensures { (start : List ℕ) (a : Alg) → Laid source.entry.cap start j a out.old read.next → Told source.entry.cap start j (round_end source.entry.text.now a read.end) out.new result }
 {
-    if tokens::at(text, end) != 41 {
-        return Part::Bad(16, end);
+    if tokens::at(source.text, read.end) != b')' {
+        return Err(Fault::new(Refusal::Sign, read.end));
     }
-    let after = end + 1;
-    let times = repeat(tokens::at(text, after));
-    if times == 0 {
-        return Part::Read { end: after, next };
-    }
-    let last = moves::put_copies(out, j, next, times, cap);
-    Part::Read {
-        end: after + 1,
-        next: last,
-    }
+    let end = read.end + 1;
+    let Some(times) = repeat(tokens::at(source.text, end)) else {
+        return Ok(Read { end, ..read });
+    };
+    let next = moves::put_copies(out, j, read.next, times, source.cap);
+    Ok(Read { end: end + 1, next })
 }
 
-// The end of a square group, whose sequences were put from j to mid and from there to next: `]`, then the first inverted, and for a comma the second.
+// The end of a square group, whose sequences were put from j to mid and, the one read last, from there on: `]`, then the first inverted, and for
+// a comma the second.
 fn square(
-    text: &[u8],
+    source: Source,
     sign: u8,
-    end: usize,
+    read: Read,
     out: &mut [MoveCode],
     j: usize,
     mid: usize,
-    next: usize,
-    cap: usize,
-) -> Part
-    requires { (Behind cap out.old j mid next) × (end ≤ length text.now) }
-    ensures { (start : List ℕ) (a b : Alg) → LaidBoth cap start j a mid b out.old next → Told cap start j (square_end text.now (paired sign a b) end) out.new result }
+) -> Result<Read, Fault>
+    requires { (Behind source.cap out.old j mid read.next) × (read.end ≤ length source.text.now) }
+    ensures { (start : List ℕ) (a b : Alg) → LaidBoth source.entry.cap start j a mid b out.old read.next → Told source.entry.cap start j (square_end source.entry.text.now (paired sign a b) read.end) out.new result }
 {
-    if tokens::at(text, end) != 93 {
-        return Part::Bad(16, end);
+    if tokens::at(source.text, read.end) != b']' {
+        return Err(Fault::new(Refusal::Sign, read.end));
     }
-    let after = end + 1;
-    let back = moves::put_inverse(out, j, mid, next, cap);
-    if sign != 44 {
-        return Part::Read {
-            end: after,
-            next: back,
-        };
+    let end = read.end + 1;
+    let next = moves::put_inverse(out, j, mid, read.next, source.cap);
+    if sign != b',' {
+        return Ok(Read { end, next });
     }
-    let last = moves::put_inverse(out, mid, next, back, cap);
-    Part::Read {
-        end: after,
-        next: last,
-    }
+    let next = moves::put_inverse(out, mid, read.next, next, source.cap);
+    Ok(Read { end, next })
 }
 
 // Reads from i on up to a sign that opens no group, or to the text's end, and puts the moves from j on.
 #[cycle(group_sequence)]
 fn sequence(
-    n: usize,
-    text: &[u8],
+    source: Source,
     i: usize,
     left: usize,
     out: &mut [MoveCode],
     j: usize,
-    cap: usize,
-) -> Part
-    requires { Asked n text.now i cap out.old j }
-    ensures { Told cap out.old j (sequence_at n text.now left i) out.new result }
+) -> Result<Read, Fault>
+    requires { Asked source.n source.text.now i source.cap out.old j }
+    ensures { Told source.entry.cap out.old j (sequence_at source.entry.n source.entry.text.now left i) out.new result }
 {
-    let mut at = i;
-    let mut next = j;
-    loop {
-        let Next::Word { start, end } = tokens::words::next_word(true, text, at) else {
-            return Part::Read {
-                end: text.len(),
-                next,
-            };
-        };
-        if is_opening(text[start]) {
+    let mut read = Read { end: i, next: j };
+    while let Some(word) = tokens::words::next_word(true, source.text, read.end) {
+        let first = source.text[word.start];
+        if is_opening(first) {
             if left == 0 {
-                return Part::Bad(17, start);
+                return Err(Fault::new(Refusal::Level, word.start));
             }
-            let r = group(n, text, start, left - 1, out, next, cap);
-            let Part::Read {
-                end: after,
-                next: further,
-            } = r
-            else {
-                return r;
-            };
-            at = after;
-            next = further;
+            read = group(source, word.start, left - 1, out, read.next)?;
             continue;
         }
-        if tokens::words::is_group_sign(text[start]) {
-            return Part::Read { end: start, next };
+        if tokens::words::is_group_sign(first) {
+            return Ok(Read {
+                end: word.start,
+                ..read
+            });
         }
-        let r = token(n, text, start, end, out, next, cap);
-        let Part::Read {
-            end: after,
-            next: further,
-        } = r
-        else {
-            return r;
-        };
-        at = after;
-        next = further;
+        read = token(source, word, out, read.next)?;
     }
+    Ok(Read {
+        end: source.text.len(),
+        ..read
+    })
 }
 
 // Reads the group whose opening sign stands at s, and puts its moves from j on.
 #[cycle(group_sequence)]
 fn group(
-    n: usize,
-    text: &[u8],
+    source: Source,
     s: usize,
     left: usize,
     out: &mut [MoveCode],
     j: usize,
-    cap: usize,
-) -> Part
-    requires { (Asked n text.now s cap out.old j) × (s < length text.now) }
-    ensures { Told cap out.old j (group_at n text.now left s) out.new result }
+) -> Result<Read, Fault>
+    requires { (Asked source.n source.text.now s source.cap out.old j) × (s < length source.text.now) }
+    ensures { Told source.entry.cap out.old j (group_at source.entry.n source.entry.text.now left s) out.new result }
 {
-    let r = sequence(n, text, s + 1, left, out, j, cap);
-    let Part::Read { end, next } = r else {
-        return r;
-    };
-    if text[s] == 40 {
-        return round(text, end, out, j, next, cap);
+    let first = sequence(source, s + 1, left, out, j)?;
+    if source.text[s] == b'(' {
+        return round(source, first, out, j);
     }
-    let sign = tokens::at(text, end);
+    let sign = tokens::at(source.text, first.end);
     if !is_parting(sign) {
-        return Part::Bad(16, end);
+        return Err(Fault::new(Refusal::Sign, first.end));
     }
-    let q = sequence(n, text, end + 1, left, out, next, cap);
-    let Part::Read {
-        end: last,
-        next: after,
-    } = q
-    else {
-        return q;
-    };
-    square(text, sign, last, out, j, next, after, cap)
+    let second = sequence(source, first.end + 1, left, out, first.next)?;
+    square(source, sign, second, out, j, first.next)
 }
 
-// Reads the whole text and counts its moves, no further than the cap, or finds its first error. It has no output to write to.
-fn measure(n: usize, text: &[u8], cap: usize) -> Part
-    requires { (sized n ≡ true) × (0 < cap) }
-    ensures { Told cap [] 0 (sequence_at n text.now 8 0) [] result }
+// Reads the whole text and counts its moves, or finds its first error. It has no output to write to.
+fn measure(source: Source) -> Result<Read, Fault>
+    requires { (sized source.n ≡ true) × (0 < source.cap) }
+    ensures { Told source.entry.cap [] 0 (sequence_at source.entry.n source.entry.text.now 8 0) [] result }
 {
-    let mut none: [MoveCode; 1] = [0; 1];
-    sequence(n, text, 0, 8, &mut none[..0], 0, cap)
+    sequence(source, 0, 8, &mut [], 0)
 }
 
 // Reads it once more, and puts its moves.
-fn write(n: usize, text: &[u8], out: &mut [MoveCode], cap: usize)
-    requires { (sized n ≡ true) × (length out.old < cap) }
-    ensures { Written (sequence_at n text.now 8 0) out.old out.new }
+fn write(source: Source, out: &mut [MoveCode])
+    requires { (sized source.n ≡ true) × (length out.old < source.cap) }
+    ensures { Written (sequence_at source.entry.n source.entry.text.now 8 0) out.old out.new }
 {
-    sequence(n, text, 0, 8, out, 0, cap);
+    let _ = sequence(source, 0, 8, out, 0);
 }
 
 // Reads a text as moves, groups expanded. Nothing is written before all is known.
-pub fn parse_algorithm(n: usize, text: &[u8], out: &mut [MoveCode]) -> Parsed
+pub fn parse_algorithm(n: usize, text: &[u8], out: &mut [MoveCode]) -> Result<usize, ParseError>
     ensures { AlgorithmResult n text.now out.old out.new result }
 {
     if !generic_cube::is_size(n) {
-        return Parsed::Refused(1);
+        return Err(Refusal::Size.into());
     }
     let cap = out.len() + 1;
-    let r = measure(n, text, cap);
-    match r {
-        Part::Bad(number, place) => {
-            return Parsed::RefusedAt(number, place);
-        }
-        Part::Read { end, next } => {
-            if end < text.len() {
-                return Parsed::RefusedAt(16, end);
-            }
-            if out.len() < next {
-                return Parsed::Refused(6);
-            }
-            write(n, text, out, cap);
-            return Parsed::Moves(next);
-        }
+    let source = Source { n, text, cap };
+    let read = measure(source)?;
+    if read.end < text.len() {
+        return Err(Fault::new(Refusal::Sign, read.end).into());
     }
+    if out.len() < read.next {
+        return Err(Refusal::Room.into());
+    }
+    write(source, out);
+    Ok(read.next)
 }

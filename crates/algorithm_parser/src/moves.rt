@@ -11,10 +11,7 @@ fn plus(j: usize, size: usize, cap: usize) -> usize
     requires { j ≤ cap }
     ensures { result ≡ min (j + size) cap }
 {
-    if size < cap - j {
-        return j + size;
-    }
-    cap
+    if size < cap - j { j + size } else { cap }
 }
 
 // One move at the place j.
@@ -29,27 +26,13 @@ pub fn put(out: &mut [MoveCode], j: usize, code: MoveCode, cap: usize) -> usize
     plus(j, 1, cap)
 }
 
-// Copies `size` codes from j to `to`, which lies behind them.
-fn copy_part(out: &mut [MoveCode], j: usize, to: usize, size: usize)
-    requires { (j + size ≤ to) × (to + size ≤ length out.old) }
-    ensures { Transferred (λ vs. vs) out.old j to size out.new }
-{
-    let mut k = 0;
-    while k < size {
-        out[to + k] = out[j + k];
-        k += 1;
-    }
-}
-
 // Writes the inverse of the `size` codes at j, the last one first, to `to`, which lies behind them.
 fn invert_part(out: &mut [MoveCode], j: usize, to: usize, size: usize)
     requires { (j + size ≤ to) × (to + size ≤ length out.old) }
     ensures { Transferred inverse out.old j to size out.new }
 {
-    let mut k = 0;
-    while k < size {
+    for k in 0..size {
         out[to + k] = move_lists::inverse_code(out[j + (size - 1 - k)]);
-        k += 1;
     }
 }
 
@@ -58,10 +41,9 @@ fn put_part(out: &mut [MoveCode], j: usize, mid: usize, to: usize, cap: usize) -
     requires { Behind cap out.old j mid to }
     ensures { Appended cap (λ vs. vs) out.old j mid to out.new result }
 {
-    let size = mid - j;
-    let next = plus(to, size, cap);
+    let next = plus(to, mid - j, cap);
     if next <= out.len() {
-        copy_part(out, j, to, size);
+        out.copy_within(j..mid, to);
     }
     next
 }
@@ -85,10 +67,8 @@ pub fn put_copies(out: &mut [MoveCode], j: usize, mid: usize, times: u8, cap: us
     ensures { Appended cap (copies (times - 1)) out.old j mid mid out.new result }
 {
     let mut end = mid;
-    let mut c: u8 = 1;
-    while c < times {
+    for _c in 1..times {
         end = put_part(out, j, mid, end, cap);
-        c += 1;
     }
     end
 }

@@ -59,9 +59,6 @@ pub record Running (n : ℕ) (moves cube₀ cube : List ℕ) (i : ℕ) : Type 0 
   pub rest : run n (drop i moves) cube ≡ run n moves cube₀
 
 module _ {n : ℕ} {moves cube₀ : List ℕ} where
-  pub runs_none : length cube₀ ≡ stickers n → Running n moves cube₀ cube₀ 0
-  runs_none a = record { most = omega arith; cube_long = a; rest = refl }
-
   pub runs_more : {cube cube' : List ℕ} {m : Move} {i : ℕ} → Running n moves cube₀ cube i → i < length moves
       → m ≡ move_of (get_or moves i 0) → cube' ≡ moved n m cube → Running n moves cube₀ cube' (i + 1)
   unfolding run

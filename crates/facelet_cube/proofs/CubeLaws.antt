@@ -4,10 +4,10 @@ use mathlib.Core.Path.{◌≡◌, refl, sym, ap, subst, ◌∙◌}
 use mathlib.Core.Bool.{Bool, not}
 use mathlib.Core.List.{List, [], ◌∷◌, ◌++◌}
 use native.Mathlib.Omega.{arith}
-use native.Mathlib.Nat.{mul-le-mul, mul-le-mul_right, suc-mul, mul_assoc, zero-add}
+use native.Mathlib.Nat.{zero-add}
 use lib.Dec.{leb, eqb}
 use lib.ListN.{length, get_or, set, take, drop}
-use borrow.Author.Tests.{eqb-true, ne_eqb, eq-eqb, leb-false, not-false}
+use borrow.Author.Tests.{eqb-true, eq-eqb, leb-false, not-false}
 use Rattle.std.specs.List.{list_any, list_all}
 use Rattle.ground.specs.Choice.{pick, any, all}
 use Rattle.std.specs.Prelude.{Err}
@@ -23,7 +23,6 @@ use Rattle.generic_cube.specs.Inner.{Sized}
 use Rattle.generic_cube.proofs.AnswerLaws.{err_number}
 use Rattle.generic_cube.proofs.CodeLaws.{size_in_range, bounds_sized}
 use Rattle.ground.proofs.PutLaws.{get_d_from}
-use Rattle.sticker.proofs.PlaceLaws.{room}
 use Rattle.facelet_cube.specs.Facelets.{Pointwise}
 use Rattle.facelet_cube.specs.Inner.{Whole, Masks}
 use Rattle.facelet_cube.specs.Cube.{cube_rows, cube_refusal, one_byte, face_stickers, large_id, mask_rows, mask_refusal, masked}
@@ -106,27 +105,6 @@ pub mask_put : (n : ℕ) (ids keep : List ℕ) {l₀ l : List ℕ} {j : ℕ} →
     → length l₀ ≡ stickers n → l ≡ masked n l₀ ids keep
 unfolding masked
 mask_put n ids keep {l₀} c h e = fill_all c.filling (omega (arith, c.filling.long)) ∙ ap (λ m. tabulate m (mask_at l₀ ids keep)) e
-
-pub mask_gone : (cube ids keep : List ℕ) (j : ℕ) → get_or keep (get_or ids j 0) 0 ≡ 0 → 88 ≡ mask_at cube ids keep j
-mask_gone cube ids keep j e = simp (eq-eqb _ _ e)
-
-pub mask_stays : (cube ids keep : List ℕ) (j : ℕ) → (get_or keep (get_or ids j 0) 0 ≡ 0 → ⊥) → get_or cube j 0 ≡ mask_at cube ids keep j
-mask_stays cube ids keep j e = simp (ne_eqb _ _ e)
-
--- a face is a part of its cube
-pub record FacePart (n k long : ℕ) : Type 0 where
-  pub whole_face_lem : k * (n * n) + n * n ≤ long
-  pub small : long ≤ 64896
-
-pub face_part : {n long : ℕ} (k : ℕ) → Whole n long → k < 6 → FacePart n k long
-face_part {n} {long} k w h =
-    let s = mul-le-mul_right (n * n) h in
-    let e = suc-mul k (n * n) in
-    let a = mul_assoc 6 n n in
-    record { whole_face_lem = omega (arith, w.long_is); small = omega (arith, w.long_is, room n w.size.size) }
-
-pub side_small : {n long : ℕ} → Whole n long → n * n ≤ 10816
-side_small w = mul-le-mul w.size.size w.size.size
 
 -- the k-th of the six is k, and the part that the code takes is its face
 pub face_nth : (k : ℕ) → k < 6 → get_or (0 ∷ 1 ∷ 2 ∷ 3 ∷ 4 ∷ 5 ∷ []) k 0 ≡ k

@@ -108,7 +108,7 @@ fn put_mask(n: usize, cube: &mut [u8], ids: &[u16], keep: &[u8])
 {
     for (j, sticker) in cube.iter_mut().enumerate() {
         if keep[ids[j] as usize] == 0 {
-            *sticker = 88;
+            *sticker = b'X';
         }
     }
 }

@@ -120,14 +120,6 @@ lane_place_fits n ring k p q z hr hk hp hq =
     (digits_below n 6 g (get_or (spots n p q) e 0) (ring_face_lem _ i) (spot_below n p q e hp hq)) (spot_below n p q (e + 1) hp hq) in
     record { spot = l.spot; within = subst (λ (x : ℕ). x < stickers n) (sym l.is) b }
 
--- an index that is read
-pub record Reads (i long : ℕ) : Type 0 where
-  pub within : i < long
-  pub small : i ≤ 200000
-
-pub reads : {a : Lane} {p q long i : ℕ} → PlaceFits a p q long → i ≡ place_on a p q → Reads i long
-reads f e = record { within = omega (arith, f.within); small = omega (arith, f.spot.room) }
-
 -- a line of a ring's lanes is a line of places of the cube
 pub line_fits : {n ring first lines count long p : ℕ} {r : Ring} → RingFits n ring first lines count long → r ≡ ring_of n ring → p < lines
     → LineFits (first + p) count r long
@@ -179,9 +171,6 @@ module _ {t p count : ℕ} {r : Ring} {l₀ : List ℕ} where
   unfolding line_cycled
   line_none = record { most = omega arith; done = refl }
 
-  pub line_long : {l : List ℕ} {q : ℕ} → LineDone t p count r l₀ l q → length l ≡ length l₀
-  line_long {l} {q} d = ap length d.done ∙ length_line t p r q l₀
-
   pub line_more : {l : List ℕ} {q i j k e v₁ v₂ v₃ v₄ : ℕ} → LineDone t p count r l₀ l q → q < count
       → i ≡ place_on r.a p q → j ≡ place_on r.b p q → k ≡ place_on r.c p q → e ≡ place_on r.d p q
       → v₁ ≡ prior t (get_or l e 0) (get_or l k 0) (get_or l j 0) → v₂ ≡ prior t (get_or l i 0) (get_or l e 0) (get_or l k 0)
@@ -197,9 +186,6 @@ module _ {t p count : ℕ} {r : Ring} {l₀ : List ℕ} where
       places : cycled t i j k e l ≡ cycled t (place_on r.a p q) (place_on r.b p q) (place_on r.c p q) (place_on r.d p q) l
       places = λ x. cycled t (ei x) (ej x) (ek x) (ee x) l
 
-  pub line_all : {l : List ℕ} {q : ℕ} → LineDone t p count r l₀ l q → count ≤ q → l ≡ line_cycled t p r count l₀
-  line_all {l} {q} d h = let e : q ≡ count = omega (arith, d.most) in d.done ∙ ap (λ x. line_cycled t p r x l₀) e
-
 -- one line more of a ring
 pub record RingDone (n t ring count first lines : ℕ) (l₀ l : List ℕ) (p : ℕ) : Type 0 where
   pub most : p ≤ lines
@@ -210,17 +196,11 @@ module _ {n t ring count first lines : ℕ} {l₀ : List ℕ} where
   unfolding ring_turned
   ring_none = record { most = omega arith; done = refl }
 
-  pub ring_long : {l : List ℕ} {p : ℕ} → RingDone n t ring count first lines l₀ l p → length l ≡ length l₀
-  ring_long {l} {p} r = ap length r.done ∙ length_ring n t ring count first p l₀
-
   pub ring_more : {l l' : List ℕ} {p : ℕ} {r : Ring} → RingDone n t ring count first lines l₀ l p → p < lines → r ≡ ring_of n ring
       → l' ≡ line_cycled t (first + p) r count l → RingDone n t ring count first lines l₀ l' (p + 1)
   unfolding ring_turned
   ring_more {l} {l'} {p} {r} d h s e =
       record { most = omega (arith, d.most); done = rw add-one (e ∙ (λ i. line_cycled t (first + p) (s i) count (d.done i))) }
-
-  pub ring_all : {l : List ℕ} {p : ℕ} → RingDone n t ring count first lines l₀ l p → lines ≤ p → l ≡ ring_turned n t ring count first lines l₀
-  ring_all {l} {p} r h = let e : p ≡ lines = omega (arith, r.most) in r.done ∙ ap (λ x. ring_turned n t ring count first x l₀) e
 
 -- the code's steps: the rings of layers
 pub layers_done : (n t face first count : ℕ) (l : List ℕ) {l₁ l₂ l₃ : List ℕ} → l₁ ≡ ring_turned n t (3 * face) n first count l

@@ -1,87 +1,33 @@
 // Rings of lanes: how the stickers that a move takes lie, so that it can turn them in place. facelet_moves turns them.
 #![tactic(auto)]
 
-ghost use Rattle.std.specs.Prelude.{◌≡◌, ◌/◌, ◌%◌, ◌<◌, get_or};
+ghost use Rattle.std.specs.Prelude.{◌≡◌, ◌+◌, ◌*◌, ◌<◌, get_or};
 ghost use Rattle.generic_cube.specs.Inner.{Sized};
 ghost use Rattle.sticker.specs.Place.{num_of};
 ghost use Rattle.geometric_moves.specs.Turn.{kind_face};
 ghost use Rattle.facelet_lanes.specs.InnerLanes.{ring_faces, ring_edges, frame_of, lane_of, ring_lane, ring_of, place_on, Spot};
 
-// The edges at which lanes start: three rings for each face, four lanes to a ring: the sides, the face, the face opposite. An edge is the
-// number of its face, and 0 for the first row, 1 for the last column, 2 for the last row, 3 for the first column.
-const EDGES: [(u8, u8); 72] = [
-    (1, 0),
-    (2, 0),
-    (4, 0),
-    (5, 0),
-    (0, 0),
-    (0, 1),
-    (0, 2),
-    (0, 3),
-    (3, 0),
-    (3, 3),
-    (3, 2),
-    (3, 1),
-    (0, 1),
-    (5, 3),
-    (3, 1),
-    (2, 1),
-    (1, 0),
-    (1, 1),
-    (1, 2),
-    (1, 3),
-    (4, 0),
-    (4, 3),
-    (4, 2),
-    (4, 1),
-    (0, 2),
-    (1, 3),
-    (3, 0),
-    (4, 1),
-    (2, 0),
-    (2, 1),
-    (2, 2),
-    (2, 3),
-    (5, 0),
-    (5, 3),
-    (5, 2),
-    (5, 1),
-    (1, 2),
-    (5, 2),
-    (4, 2),
-    (2, 2),
-    (3, 0),
-    (3, 1),
-    (3, 2),
-    (3, 3),
-    (0, 0),
-    (0, 3),
-    (0, 2),
-    (0, 1),
-    (0, 3),
-    (2, 3),
-    (3, 3),
-    (5, 1),
-    (4, 0),
-    (4, 1),
-    (4, 2),
-    (4, 3),
-    (1, 0),
-    (1, 3),
-    (1, 2),
-    (1, 1),
-    (0, 0),
-    (4, 3),
-    (3, 2),
-    (1, 1),
-    (5, 0),
-    (5, 1),
-    (5, 2),
-    (5, 3),
-    (2, 0),
-    (2, 3),
-    (2, 2),
-    (2, 1),
+// Three rings for each face, four lanes to a ring: the sides, the face, the face opposite. A lane starts at an edge of a face: here are the
+// number of the face, and 0 for its first row, 1 for the last column, 2 for the last row, 3 for the first column.
+static RINGS: [[(usize, usize); 4]; 18] = [
+    [(1, 0), (2, 0), (4, 0), (5, 0)],
+    [(0, 0), (0, 1), (0, 2), (0, 3)],
+    [(3, 0), (3, 3), (3, 2), (3, 1)],
+    [(0, 1), (5, 3), (3, 1), (2, 1)],
+    [(1, 0), (1, 1), (1, 2), (1, 3)],
+    [(4, 0), (4, 3), (4, 2), (4, 1)],
+    [(0, 2), (1, 3), (3, 0), (4, 1)],
+    [(2, 0), (2, 1), (2, 2), (2, 3)],
+    [(5, 0), (5, 3), (5, 2), (5, 1)],
+    [(1, 2), (5, 2), (4, 2), (2, 2)],
+    [(3, 0), (3, 1), (3, 2), (3, 3)],
+    [(0, 0), (0, 3), (0, 2), (0, 1)],
+    [(0, 3), (2, 3), (3, 3), (5, 1)],
+    [(4, 0), (4, 1), (4, 2), (4, 3)],
+    [(1, 0), (1, 3), (1, 2), (1, 1)],
+    [(0, 0), (4, 3), (3, 2), (1, 1)],
+    [(5, 0), (5, 1), (5, 2), (5, 3)],
+    [(2, 0), (2, 3), (2, 2), (2, 1)],
 ];
 
 // Places in lines. From a line to the next the place goes up by `over` and down by `under`, along a line up by `along` and down by `behind`.
@@ -113,14 +59,13 @@ impl Lane {
     }
 }
 
-// The face and the number of an edge of the table.
-fn edge_at(i: usize) -> (usize, usize)
-    requires { i < 72 }
-    ensures face { (result.0 ≡ get_or ring_faces i 0) × (result.0 < 6) }
-    ensures edge { (result.1 ≡ get_or ring_edges i 0) × (result.1 < 4) }
+// The face and the edge at which lane k of a ring starts.
+fn edge_at(ring: usize, k: usize) -> (usize, usize)
+    requires { (ring < 18) × (k < 4) }
+    ensures face { (result.0 ≡ get_or ring_faces (4 * ring + k) 0) × (result.0 < 6) }
+    ensures edge { (result.1 ≡ get_or ring_edges (4 * ring + k) 0) × (result.1 < 4) }
 {
-    let edge = EDGES[i];
-    (edge.0 as usize, edge.1 as usize)
+    RINGS[ring][k]
 }
 
 // The corners of a face and the steps along its edges, written down once for the four lanes of a ring.
@@ -162,7 +107,7 @@ impl Frame {
         requires { Sized self.now.n × (ring < 18) × (k < 4) × (self.now ≡ frame_of self.now.n) }
         ensures { result ≡ ring_lane self.now.n ring k }
     {
-        let (face, edge) = edge_at(4 * ring + k);
+        let (face, edge) = edge_at(ring, k);
         self.lane(face, edge)
     }
 }

@@ -1,10 +1,15 @@
 -- Places of a slice that are read, moved on and written, as their numbers have it.
 use Prim.Native.Nat.{ℕ, ◌+◌, ◌<◌}
-use mathlib.Core.Path.{◌≡◌, sym, subst, ◌∙◌}
+use mathlib.Core.Path.{◌≡◌, ap, sym, subst, ◌∙◌}
 use mathlib.Core.List.{List}
 use native.Mathlib.Omega.{arith}
 use lib.ListN.{length, get_or, set, replicate}
-use Rattle.facelet_cube.specs.Apply.{apply_refusal}
+use Rattle.std.specs.Prelude.{Ok, Err}
+use Rattle.ground.specs.declared.refusals.Refusal.{Refusal}
+use Rattle.generic_cube.specs.Answers.{done}
+use Rattle.geometric_moves.specs.Turn.{run}
+use Rattle.facelet_cube.specs.Apply.{apply_refusal, ApplyMovesResult}
+use Rattle.facelet_cube.proofs.ApplyLaws.{runnable, apply_refused, apply_done}
 use Rattle.facelet_cube.specs.Facelets.{Pointwise}
 use Rattle.facelet_lanes.specs.declared.Ring.{Ring}
 use Rattle.facelet_lanes.specs.InnerLanes.{place_on, prior, CellFits, LineFits}
@@ -39,11 +44,19 @@ module _ {A : Type 0} {number : A → ℕ} {numbers : List A → List ℕ} (laws
       (e₁ ∙ (λ s. prior t (nw s) (nz s) (ny s))) (e₂ ∙ (λ s. prior t (nx s) (nw s) (nz s)))
       (e₃ ∙ (λ s. prior t (ny s) (nx s) (nw s))) (e₄ ∙ (λ s. prior t (nz s) (ny s) (nx s))))
 
-  -- the refusal speaks of the lengths of the slices, which are those of their numbers
-  pub refusal_numbers : (n : ℕ) (cube work : List A) (moves : List ℕ)
-      → apply_refusal n (length (numbers cube)) (length (numbers work)) moves ≡ apply_refusal n (length cube) (length work) moves
-  refusal_numbers n cube work moves = λ s. apply_refusal n (laws.long cube s) (laws.long work s) moves
+  -- the entry: its refusal speaks of the lengths of the slices, which are those of their numbers
+  module _ (n : ℕ) (cube work : List A) (moves : List ℕ) where
+    numbers_refusal : apply_refusal n (length (numbers cube)) (length (numbers work)) moves ≡ apply_refusal n (length cube) (length work) moves
+    numbers_refusal = λ s. apply_refusal n (laws.long cube s) (laws.long work s) moves
 
-  -- a cleared slice
-  pub cleared_numbers : {long k : ℕ} {x : A} → long ≡ k → number x ≡ 0 → numbers (replicate long x) ≡ replicate k 0
-  cleared_numbers {long} {k} {x} e z = laws.cleared long x ∙ (λ s. replicate (e s) (z s))
+    pub numbers_refused : {r : Refusal} → Err r ≡ done (apply_refusal n (length cube) (length work) moves)
+        → ApplyMovesResult n (numbers cube) (numbers work) moves (numbers cube) (numbers work) (Err r)
+    numbers_refused e = apply_refused n (numbers cube) (numbers work) moves (e ∙ ap done (sym numbers_refusal))
+
+    pub numbers_done : {cube' work' : List A} {x : A} → apply_refusal n (length cube) (length work) moves ≡ 0
+        → numbers cube' ≡ run n moves (numbers cube) → work' ≡ replicate (length work) x → number x ≡ 0
+        → ApplyMovesResult n (numbers cube) (numbers work) moves (numbers cube') (numbers work') (Ok tt)
+    numbers_done {cube'} {work'} {x} e d w z =
+        let long = (runnable n (length cube) (length work) moves e).work_long in
+        apply_done n (numbers cube) (numbers work) moves (numbers_refusal ∙ e) d
+        (ap numbers w ∙ laws.cleared (length work) x ∙ (λ s. replicate (long s) (z s)))

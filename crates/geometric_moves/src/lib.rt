@@ -17,7 +17,7 @@ pub struct Rotation {
 }
 
 // The face as which each kind turns: the letters U L F R B D, the wide ones, and X, Y, Z, which turn as R, U, F.
-const KIND_FACES: [Face; 15] = [
+static KIND_FACES: [Face; 15] = [
     Face::U,
     Face::L,
     Face::F,

@@ -3,172 +3,152 @@ use mathlib.Core.Path.{◌≡◌, sym, ◌∙◌}
 use native.Mathlib.Omega.{arith}
 use mathlib.Core.Bool.{true, ◌||◌}
 use lib.Dec.{eqb}
-use lib.ListN.{length, get_or, take, drop}
-use Rattle.tokens.specs.Words.{group_signs}
+use lib.ListN.{get_or, take, drop}
+use Rattle.ground.proofs.RefusalLaws.{passed_on}
 use Rattle.tokens.specs.Token.{read_token}
-use Rattle.tokens.specs.Inner.{Found}
-use Rattle.tokens.proofs.WordLaws.{found, none_left}
 use Rattle.algorithm_parser.specs.Groups.{group_at}
 use Rattle.algorithm_parser.specs.Inner.{token_at}
 use Rattle.algorithm_parser.proofs.ReaderLaws.{at_none, parting_within}
-use Rattle.algorithm_parser.proofs.CycleLaws.{unread, go_end, go_wrong, go_bad, go_more, word_deep, word_group, word_other, word_token, token_end_lem, group_end, Part_read, part_read, part_behind, parting_is, group_bad, group_round, group_no_sign, group_second_bad, group_square}
-use Prim.Native.Nat.{◌<◌}
+use Rattle.algorithm_parser.proofs.CycleLaws.{go_end, go_wrong, go_bad, go_more, word_deep, word_group, word_other, word_token, token_end_lem, group_end, Part_read, part_read, part_behind, parting_is, group_bad, group_round, group_no_sign, group_second_bad, group_square}
 use Rattle.algorithm_parser.proofs.+group_sequence.Goals as goal
 
-pub group-returns-in_default : goal.group-returns-in_default
-group-returns-in_default t c = let a = c.args in
-    group_bad a.n a.text.now a.left a.s a.cap a.out.now a.j c.requires.1 _ c.sequence-r.ensures (unread c.in_default.is)
+pub group-returns-in_err-first : goal.group-returns-in_err-first
+group-returns-in_err-first m c =
+    let a = c.args in
+    let t = a.source in
+    rw (passed_on _ c.from_residual.ensures.1) (group_bad t.n t.text.now a.left a.s t.cap a.out.now a.j c.requires.1 _ _ c.in_err-first.ensures)
 
 pub group-round-requires : goal.group-round-requires
-group-round-requires t c =
-    let first : Part_read c.args.n c.args.text.now c.args.left (c.args.s + 1) c.args.cap c.args.out.now c.args.j c.sequence-r.new.out c.in-Read.end c.in-Read.next =
+group-round-requires m c =
     let a = c.args in
-    part_read a.n a.text.now a.left (a.s + 1) a.cap a.out.now a.j c.sequence-r.new.out (omega (arith, c.requires.1)) c.in-Read.is c.sequence-r.ensures in
-    let q = first in (part_behind c.requires.0.placed q, q.within)
+    let t = a.source in
+    let first : Part_read t.n t.text.now a.left (a.s + 1) t.cap a.out.now a.j c.sequence.new.out c.in_ok-first.first.end c.in_ok-first.first.next =
+    part_read t.n t.text.now a.left (a.s + 1) t.cap a.out.now a.j _ _ (omega (arith, c.requires.1)) c.in_ok-first.ensures in
+    (part_behind c.requires.0.placed first, first.within)
 
-pub group-returns-then-text-s-eq40 : goal.group-returns-then-text-s-eq40
-group-returns-then-text-s-eq40 t c =
-    let first : Part_read c.args.n c.args.text.now c.args.left (c.args.s + 1) c.args.cap c.args.out.now c.args.j c.sequence-r.new.out c.in-Read.end c.in-Read.next =
+pub group-returns-then-source-s-eq40 : goal.group-returns-then-source-s-eq40
+group-returns-then-source-s-eq40 m c =
     let a = c.args in
-    part_read a.n a.text.now a.left (a.s + 1) a.cap a.out.now a.j c.sequence-r.new.out (omega (arith, c.requires.1)) c.in-Read.is c.sequence-r.ensures in
-    let a = c.args in
-    let q = first in
-    group_round a.n a.text.now a.left a.s a.cap a.out.now a.j c.requires.1 q _ _ c.if-text-s-eq40.true (c.round.ensures a.out.now q.meaning q.laid)
+    let t = a.source in
+    let first : Part_read t.n t.text.now a.left (a.s + 1) t.cap a.out.now a.j c.sequence.new.out c.in_ok-first.first.end c.in_ok-first.first.next =
+    part_read t.n t.text.now a.left (a.s + 1) t.cap a.out.now a.j _ _ (omega (arith, c.requires.1)) c.in_ok-first.ensures in
+    group_round t.n t.text.now a.left a.s t.cap a.out.now a.j c.requires.1 first _ _ c.if-source-s-eq40.true (c.round.ensures a.out.now first.meaning first.laid)
 
 pub group-returns-then-not-is_parting : goal.group-returns-then-not-is_parting
-group-returns-then-not-is_parting t c =
-    let first : Part_read c.args.n c.args.text.now c.args.left (c.args.s + 1) c.args.cap c.args.out.now c.args.j c.sequence-r.new.out c.in-Read.end c.in-Read.next =
+group-returns-then-not-is_parting m c =
     let a = c.args in
-    part_read a.n a.text.now a.left (a.s + 1) a.cap a.out.now a.j c.sequence-r.new.out (omega (arith, c.requires.1)) c.in-Read.is c.sequence-r.ensures in
-    let a = c.args in
-    group_no_sign a.n a.text.now a.left a.s a.cap a.out.now a.j c.requires.1 (first) c.if-text-s-eq40.false (parting_is c.at-sign.ensures c.is_parting.ensures (c.if-not-is_parting.true))
+    let t = a.source in
+    let first : Part_read t.n t.text.now a.left (a.s + 1) t.cap a.out.now a.j c.sequence.new.out c.in_ok-first.first.end c.in_ok-first.first.next =
+    part_read t.n t.text.now a.left (a.s + 1) t.cap a.out.now a.j _ _ (omega (arith, c.requires.1)) c.in_ok-first.ensures in
+    group_no_sign t.n t.text.now a.left a.s t.cap a.out.now a.j c.requires.1 first c.if-source-s-eq40.false
+    (parting_is c.at-sign.ensures c.is_parting.ensures c.if-not-is_parting.true) c.new.ensures
 
-pub group-sequence-q-requires : goal.group-sequence-q-requires
-group-sequence-q-requires t c =
-    let first : Part_read c.args.n c.args.text.now c.args.left (c.args.s + 1) c.args.cap c.args.out.now c.args.j c.sequence-r.new.out c.in-Read.end c.in-Read.next =
+pub group-sequence-requires-2 : goal.group-sequence-requires-2
+group-sequence-requires-2 m c =
     let a = c.args in
-    part_read a.n a.text.now a.left (a.s + 1) a.cap a.out.now a.j c.sequence-r.new.out (omega (arith, c.requires.1)) c.in-Read.is c.sequence-r.ensures in
-    let parted : (eqb (get_or c.args.text.now c.in-Read.end 0) 44 || eqb (get_or c.args.text.now c.in-Read.end 0) 58) ≡ true =
-    parting_is c.at-sign.ensures c.is_parting.ensures (c.if-not-is_parting.false) in
-    let inside : c.in-Read.end < length c.args.text.now =
-    parting_within c.args.text.now c.in-Read.end (parted) in
-    let q = first in
-    let w = inside in
-    (omega (arith, c.decreases, c.requires.1, q.from, w), record { size = c.requires.0.size; within = omega (arith, w); placed = (part_behind c.requires.0.placed q).placed })
+    let t = a.source in
+    let first : Part_read t.n t.text.now a.left (a.s + 1) t.cap a.out.now a.j c.sequence.new.out c.in_ok-first.first.end c.in_ok-first.first.next =
+    part_read t.n t.text.now a.left (a.s + 1) t.cap a.out.now a.j _ _ (omega (arith, c.requires.1)) c.in_ok-first.ensures in
+    let parted : (eqb (get_or t.text.now c.in_ok-first.first.end 0) 44 || eqb (get_or t.text.now c.in_ok-first.first.end 0) 58) ≡ true =
+    parting_is c.at-sign.ensures c.is_parting.ensures c.if-not-is_parting.false in
+    let inside = parting_within t.text.now c.in_ok-first.first.end parted in (
+      omega (arith, c.decreases, c.requires.1, first.from, inside),
+      record { size = c.requires.0.size; within = omega (arith, inside); placed = (part_behind c.requires.0.placed first).placed },
+    )
 
-pub group-returns-in_default-q : goal.group-returns-in_default-q
-group-returns-in_default-q t c =
-    let first : Part_read c.args.n c.args.text.now c.args.left (c.args.s + 1) c.args.cap c.args.out.now c.args.j c.sequence-r.new.out c.in-Read.end c.in-Read.next =
+pub group-returns-in_err-second : goal.group-returns-in_err-second
+group-returns-in_err-second m c =
     let a = c.args in
-    part_read a.n a.text.now a.left (a.s + 1) a.cap a.out.now a.j c.sequence-r.new.out (omega (arith, c.requires.1)) c.in-Read.is c.sequence-r.ensures in
-    let parted : (eqb (get_or c.args.text.now c.in-Read.end 0) 44 || eqb (get_or c.args.text.now c.in-Read.end 0) 58) ≡ true =
-    parting_is c.at-sign.ensures c.is_parting.ensures (c.if-not-is_parting.false) in
-    let a = c.args in
-    group_second_bad a.n a.text.now a.left a.s a.cap a.out.now a.j c.requires.1 (first) c.if-text-s-eq40.false (parted) _ c.sequence-q.ensures (unread c.in_default-q.is)
+    let t = a.source in
+    let first : Part_read t.n t.text.now a.left (a.s + 1) t.cap a.out.now a.j c.sequence.new.out c.in_ok-first.first.end c.in_ok-first.first.next =
+    part_read t.n t.text.now a.left (a.s + 1) t.cap a.out.now a.j _ _ (omega (arith, c.requires.1)) c.in_ok-first.ensures in
+    let parted : (eqb (get_or t.text.now c.in_ok-first.first.end 0) 44 || eqb (get_or t.text.now c.in_ok-first.first.end 0) 58) ≡ true =
+    parting_is c.at-sign.ensures c.is_parting.ensures c.if-not-is_parting.false in
+    rw (passed_on _ c.from_residual-in_err-second.ensures.1)
+    (group_second_bad t.n t.text.now a.left a.s t.cap a.out.now a.j c.requires.1 first c.if-source-s-eq40.false parted _ _ c.in_err-second.ensures)
 
 pub group-square-requires : goal.group-square-requires
-group-square-requires t c =
-    let first : Part_read c.args.n c.args.text.now c.args.left (c.args.s + 1) c.args.cap c.args.out.now c.args.j c.sequence-r.new.out c.in-Read.end c.in-Read.next =
+group-square-requires m c =
     let a = c.args in
-    part_read a.n a.text.now a.left (a.s + 1) a.cap a.out.now a.j c.sequence-r.new.out (omega (arith, c.requires.1)) c.in-Read.is c.sequence-r.ensures in
-    let parted : (eqb (get_or c.args.text.now c.in-Read.end 0) 44 || eqb (get_or c.args.text.now c.in-Read.end 0) 58) ≡ true =
-    parting_is c.at-sign.ensures c.is_parting.ensures (c.if-not-is_parting.false) in
-    let inside : c.in-Read.end < length c.args.text.now =
-    parting_within c.args.text.now c.in-Read.end (parted) in
-    let second : Part_read c.args.n c.args.text.now c.args.left (c.in-Read.end + 1) c.args.cap c.sequence-r.new.out c.in-Read.next c.sequence-q.new.out c.in-Read-q.last c.in-Read-q.after =
-    let a = c.args in
-    part_read a.n a.text.now a.left (c.in-Read.end + 1) a.cap c.sequence-r.new.out c.in-Read.next c.sequence-q.new.out
-    (omega (arith, inside)) c.in-Read-q.is c.sequence-q.ensures in
-    let x = part_behind c.requires.0.placed (first) in
-    let p = second in
-    let y = part_behind x.placed p in
-    (record { some = x.some; after = y.some; placed = y.placed }, p.within)
+    let t = a.source in
+    let first : Part_read t.n t.text.now a.left (a.s + 1) t.cap a.out.now a.j c.sequence.new.out c.in_ok-first.first.end c.in_ok-first.first.next =
+    part_read t.n t.text.now a.left (a.s + 1) t.cap a.out.now a.j _ _ (omega (arith, c.requires.1)) c.in_ok-first.ensures in
+    let parted : (eqb (get_or t.text.now c.in_ok-first.first.end 0) 44 || eqb (get_or t.text.now c.in_ok-first.first.end 0) 58) ≡ true =
+    parting_is c.at-sign.ensures c.is_parting.ensures c.if-not-is_parting.false in
+    let inside = parting_within t.text.now c.in_ok-first.first.end parted in
+    let second : Part_read t.n t.text.now a.left (c.in_ok-first.first.end + 1) t.cap c.sequence.new.out c.in_ok-first.first.next c.sequence-2.new.out c.in_ok-second.second.end c.in_ok-second.second.next =
+    part_read t.n t.text.now a.left (c.in_ok-first.first.end + 1) t.cap c.sequence.new.out c.in_ok-first.first.next _ _ (omega (arith, inside)) c.in_ok-second.ensures in
+    let x = part_behind c.requires.0.placed first in
+    let y = part_behind x.placed second in
+    (record { some = x.some; after = y.some; placed = y.placed }, second.within)
 
 pub group-returns : goal.group-returns
-group-returns t c =
-    let first : Part_read c.args.n c.args.text.now c.args.left (c.args.s + 1) c.args.cap c.args.out.now c.args.j c.sequence-r.new.out c.in-Read.end c.in-Read.next =
+group-returns m c =
     let a = c.args in
-    part_read a.n a.text.now a.left (a.s + 1) a.cap a.out.now a.j c.sequence-r.new.out (omega (arith, c.requires.1)) c.in-Read.is c.sequence-r.ensures in
-    let parted : (eqb (get_or c.args.text.now c.in-Read.end 0) 44 || eqb (get_or c.args.text.now c.in-Read.end 0) 58) ≡ true =
-    parting_is c.at-sign.ensures c.is_parting.ensures (c.if-not-is_parting.false) in
-    let inside : c.in-Read.end < length c.args.text.now =
-    parting_within c.args.text.now c.in-Read.end (parted) in
-    let second : Part_read c.args.n c.args.text.now c.args.left (c.in-Read.end + 1) c.args.cap c.sequence-r.new.out c.in-Read.next c.sequence-q.new.out c.in-Read-q.last c.in-Read-q.after =
-    let a = c.args in
-    part_read a.n a.text.now a.left (c.in-Read.end + 1) a.cap c.sequence-r.new.out c.in-Read.next c.sequence-q.new.out
-    (omega (arith, inside)) c.in-Read-q.is c.sequence-q.ensures in
-    let a = c.args in
-    let q = first in
-    let p = second in
-    group_square a.n a.text.now a.left a.s a.cap a.out.now a.j c.requires.1 q c.if-text-s-eq40.false (parted) _ c.at-sign.result _ p c.at-sign.ensures
-    (c.square.ensures a.out.now q.meaning p.meaning (record { between = c.sequence-r.new.out; first = q.laid; second = p.laid }))
-
-pub sequence-returns-in_default : goal.sequence-returns-in_default
-sequence-returns-in_default t c = let a = c.args in
-    go_end c.loop-start.invariant (at_none a.n a.text.now a.left c.loop-start.at (none_left group_signs a.text.now c.loop-start.at c.in_default.is c.next_word.ensures))
+    let t = a.source in
+    let first : Part_read t.n t.text.now a.left (a.s + 1) t.cap a.out.now a.j c.sequence.new.out c.in_ok-first.first.end c.in_ok-first.first.next =
+    part_read t.n t.text.now a.left (a.s + 1) t.cap a.out.now a.j _ _ (omega (arith, c.requires.1)) c.in_ok-first.ensures in
+    let parted : (eqb (get_or t.text.now c.in_ok-first.first.end 0) 44 || eqb (get_or t.text.now c.in_ok-first.first.end 0) 58) ≡ true =
+    parting_is c.at-sign.ensures c.is_parting.ensures c.if-not-is_parting.false in
+    let inside = parting_within t.text.now c.in_ok-first.first.end parted in
+    let second : Part_read t.n t.text.now a.left (c.in_ok-first.first.end + 1) t.cap c.sequence.new.out c.in_ok-first.first.next c.sequence-2.new.out c.in_ok-second.second.end c.in_ok-second.second.next =
+    part_read t.n t.text.now a.left (c.in_ok-first.first.end + 1) t.cap c.sequence.new.out c.in_ok-first.first.next _ _ (omega (arith, inside)) c.in_ok-second.ensures in
+    group_square t.n t.text.now a.left a.s t.cap a.out.now a.j c.requires.1 first c.if-source-s-eq40.false parted _ c.at-sign.result _ second c.at-sign.ensures
+    (c.square.ensures a.out.now first.meaning second.meaning (record { between = c.sequence.new.out; first = first.laid; second = second.laid }))
 
 pub sequence-returns-then-left-eq0 : goal.sequence-returns-then-left-eq0
-sequence-returns-then-left-eq0 t c =
-    let word : Found group_signs c.args.text.now c.loop-start.at c.in-Word.start c.in-Word.end =
-    found group_signs c.args.text.now c.loop-start.at c.in-Word.is c.next_word.ensures in
+sequence-returns-then-left-eq0 m c =
     let a = c.args in
-    go_wrong c.loop-start.invariant (word_deep a.n a.text.now a.left (word) (sym c.is_opening.ensures ∙ c.if-is_opening.true) c.if-left-eq0.true)
+    go_wrong c.loop-word.invariant
+    (word_deep a.source.n a.source.text.now a.left c.in-Some.ensures (sym c.is_opening.ensures ∙ c.if-is_opening.true) c.if-left-eq0.true) c.new.ensures
 
-pub sequence-returns-in_default-r : goal.sequence-returns-in_default-r
-sequence-returns-in_default-r t c =
-    let word : Found group_signs c.args.text.now c.loop-start.at c.in-Word.start c.in-Word.end =
-    found group_signs c.args.text.now c.loop-start.at c.in-Word.is c.next_word.ensures in
+pub sequence-returns-in_err-read : goal.sequence-returns-in_err-read
+sequence-returns-in_err-read m c =
     let a = c.args in
-    go_bad c.loop-start.invariant (group_at a.n a.text.now (a.left - 1) _)
-    (word_group a.n a.text.now a.left (word) (sym c.is_opening.ensures ∙ c.if-is_opening.true) c.if-left-eq0.false)
-    _ c.group-r.ensures (unread c.in_default-r.is)
+    rw (passed_on _ c.from_residual.ensures.1)
+    (go_bad c.loop-word.invariant (group_at a.source.n a.source.text.now (a.left - 1) _)
+    (word_group a.source.n a.source.text.now a.left c.in-Some.ensures (sym c.is_opening.ensures ∙ c.if-is_opening.true) c.if-left-eq0.false)
+    _ _ c.in_err-read.ensures)
 
-pub sequence-loop-start-smaller-then-is_opening : goal.sequence-loop-start-smaller-then-is_opening
-sequence-loop-start-smaller-then-is_opening t c =
-    let word : Found group_signs c.args.text.now c.loop-start.at c.in-Word.start c.in-Word.end =
-    found group_signs c.args.text.now c.loop-start.at c.in-Word.is c.next_word.ensures in
+pub sequence-loop-word-smaller-then-is_opening : goal.sequence-loop-word-smaller-then-is_opening
+sequence-loop-word-smaller-then-is_opening m c =
     let a = c.args in
-    let w = word in
-    let d = group_end a.n a.text.now (a.left - 1) _ a.cap _ _ _ (omega (arith, w.some, w.within)) c.in-Read.is c.group-r.ensures in
+    let w = c.in-Some.ensures in
+    let d = group_end a.source.n a.source.text.now (a.left - 1) _ a.source.cap _ _ _ _ (omega (arith, w.some, w.within)) c.in_ok-read.ensures in
     omega (arith, w.from, d.0, d.1)
 
+pub sequence-loop-word-preserved-then-is_opening : goal.sequence-loop-word-preserved-then-is_opening
+sequence-loop-word-preserved-then-is_opening m c =
+    let a = c.args in
+    let w = c.in-Some.ensures in
+    let d = group_end a.source.n a.source.text.now (a.left - 1) _ a.source.cap _ _ _ _ (omega (arith, w.some, w.within)) c.in_ok-read.ensures in
+    go_more c.loop-word.invariant (group_at a.source.n a.source.text.now (a.left - 1) _)
+    (word_group a.source.n a.source.text.now a.left w (sym c.is_opening.ensures ∙ c.if-is_opening.true) c.if-left-eq0.false)
+    _ _ c.in_ok-read.ensures (omega (arith, w.from, d.0)) d.1
+
 pub sequence-returns-then-is_group_sign : goal.sequence-returns-then-is_group_sign
-sequence-returns-then-is_group_sign t c =
-    let word : Found group_signs c.args.text.now c.loop-start.at c.in-Word.start c.in-Word.end =
-    found group_signs c.args.text.now c.loop-start.at c.in-Word.is c.next_word.ensures in
+sequence-returns-then-is_group_sign m c =
     let a = c.args in
-    go_end c.loop-start.invariant (word_other a.n a.text.now a.left (word) (sym c.is_opening.ensures ∙ c.if-is_opening.false) (sym c.is_group_sign.ensures ∙ c.if-is_group_sign.true))
+    go_end c.loop-word.invariant
+    (word_other a.source.n a.source.text.now a.left c.in-Some.ensures (sym c.is_opening.ensures ∙ c.if-is_opening.false) (sym c.is_group_sign.ensures ∙ c.if-is_group_sign.true))
 
-pub sequence-returns-in_default-r-2 : goal.sequence-returns-in_default-r-2
-sequence-returns-in_default-r-2 t c =
-    let word : Found group_signs c.args.text.now c.loop-start.at c.in-Word.start c.in-Word.end =
-    found group_signs c.args.text.now c.loop-start.at c.in-Word.is c.next_word.ensures in
+pub sequence-returns-in_err-read-2 : goal.sequence-returns-in_err-read-2
+sequence-returns-in_err-read-2 m c =
     let a = c.args in
-    go_bad c.loop-start.invariant (token_at a.n a.text.now c.in-Word.start c.in-Word.end)
-    (word_token a.n a.text.now a.left (word) (sym c.is_opening.ensures ∙ c.if-is_opening.false) (sym c.is_group_sign.ensures ∙ c.if-is_group_sign.false))
-    _ c.token-r.ensures (unread c.in_default-r-2.is)
+    rw (passed_on _ c.from_residual-in_err-read-2.ensures.1)
+    (go_bad c.loop-word.invariant (token_at a.source.n a.source.text.now c.in-Some.word.start c.in-Some.word.end)
+    (word_token a.source.n a.source.text.now a.left c.in-Some.ensures (sym c.is_opening.ensures ∙ c.if-is_opening.false) (sym c.is_group_sign.ensures ∙ c.if-is_group_sign.false))
+    _ _ c.in_err-read-2.ensures)
 
-pub sequence-loop-start-preserved : goal.sequence-loop-start-preserved
-sequence-loop-start-preserved t c =
-    let word : Found group_signs c.args.text.now c.loop-start.at c.in-Word.start c.in-Word.end =
-    found group_signs c.args.text.now c.loop-start.at c.in-Word.is c.next_word.ensures in
-    let ended : c.in-Read-r.after ≡ c.in-Word.end =
+pub sequence-loop-word-preserved : goal.sequence-loop-word-preserved
+sequence-loop-word-preserved m c =
     let a = c.args in
-    token_end_lem a.cap c.loop-start.out c.loop-start.next (read_token a.n (take (c.in-Word.end - c.in-Word.start) (drop c.in-Word.start a.text.now))) c.in-Word.start c.in-Word.end c.token-r.new.out c.in-Read-r.is c.token-r.ensures in
-    let a = c.args in
-    let w = word in
-    let d = ended in
-    go_more c.loop-start.invariant (token_at a.n a.text.now c.in-Word.start c.in-Word.end)
-    (word_token a.n a.text.now a.left w (sym c.is_opening.ensures ∙ c.if-is_opening.false) (sym c.is_group_sign.ensures ∙ c.if-is_group_sign.false))
-    _ c.token-r.ensures c.in-Read-r.is (omega (arith, w.from, w.some, d)) (omega (arith, w.within, d))
+    let w = c.in-Some.ensures in
+    let d = token_end_lem a.source.cap _ _ (read_token a.source.n (take (c.in-Some.word.end - c.in-Some.word.start) (drop c.in-Some.word.start a.source.text.now))) c.in-Some.word.start c.in-Some.word.end _ _ c.in_ok-read-2.ensures in
+    go_more c.loop-word.invariant (token_at a.source.n a.source.text.now c.in-Some.word.start c.in-Some.word.end)
+    (word_token a.source.n a.source.text.now a.left w (sym c.is_opening.ensures ∙ c.if-is_opening.false) (sym c.is_group_sign.ensures ∙ c.if-is_group_sign.false))
+    _ _ c.in_ok-read-2.ensures (omega (arith, w.from, w.some, d)) (omega (arith, w.within, d))
 
-pub sequence-loop-start-preserved-then-is_opening : goal.sequence-loop-start-preserved-then-is_opening
-sequence-loop-start-preserved-then-is_opening t c =
-    let word : Found group_signs c.args.text.now c.loop-start.at c.in-Word.start c.in-Word.end =
-    found group_signs c.args.text.now c.loop-start.at c.in-Word.is c.next_word.ensures in
-    let a = c.args in
-    let w = word in
-    let d = group_end a.n a.text.now (a.left - 1) _ a.cap _ _ _ (omega (arith, w.some, w.within)) c.in-Read.is c.group-r.ensures in
-    go_more c.loop-start.invariant (group_at a.n a.text.now (a.left - 1) _)
-    (word_group a.n a.text.now a.left w (sym c.is_opening.ensures ∙ c.if-is_opening.true) c.if-left-eq0.false)
-    _ c.group-r.ensures c.in-Read.is (omega (arith, w.from, d.0)) d.1
+pub sequence-returns : goal.sequence-returns
+sequence-returns m c =
+    let a = c.args in go_end c.loop-word.invariant (at_none a.source.n a.source.text.now a.left c.loop-word.read.end c.in_default.ensures)

@@ -1,32 +1,31 @@
-use mathlib.Core.Path.{◌≡◌, sym, ◌∙◌}
-use mathlib.Core.Bool.{true}
-use Rattle.generic_cube.specs.Sizes.{sized}
+use mathlib.Core.Path.{sym, ◌∙◌}
+use Rattle.ground.proofs.RefusalLaws.{passed_on}
 use Rattle.scramble_parser.proofs.ParseLaws.{read_size}
 use Rattle.algorithm_parser.proofs.AnswerLaws.{answer_bad, answer_sign, answer_short, answer_good}
 use Rattle.algorithm_parser.proofs.parse_algorithm.Goals as goal
-use Rattle.algorithm_parser.proofs.parse_algorithm.Goals.{Else-not-is_size}
 
 -- `parse_algorithm`: the first pass knows all before the second writes.
--- the size is in range
-fine : (c : Else-not-is_size) → sized c.args.n ≡ true
-fine c =
-    sym c.is_size.ensures ∙ c.if-not-is_size.false
-
 pub returns-then-not-is_size : goal.returns-then-not-is_size
-returns-then-not-is_size c = read_size _ _ _ (sym c.is_size.ensures ∙ c.if-not-is_size.true)
+returns-then-not-is_size c = rw c.into.ensures (read_size _ _ _ (sym c.is_size.ensures ∙ c.if-not-is_size.true))
 
-pub returns-in-Bad : goal.returns-in-Bad
-returns-in-Bad c =
-    let a = c.args in answer_bad a.n a.text.now a.out.now (fine (goal.at.returns-in-Bad c).Else-not-is_size) c.measure-r.ensures c.in-Bad.is
+pub returns-in_err-read : goal.returns-in_err-read
+returns-in_err-read c =
+    let a = c.args in
+    rw (passed_on _ c.from_residual.ensures.1) (answer_bad a.n a.text.now a.out.now (sym c.is_size.ensures ∙ c.if-not-is_size.false) _ c.in_err-read.ensures)
 
-pub returns-then-end-text : goal.returns-then-end-text
-returns-then-end-text c =
-    let a = c.args in answer_sign a.n a.text.now a.out.now (fine (goal.at.returns-then-end-text c).Else-not-is_size) c.measure-r.ensures c.in-Read.is c.if-end-text.true
+pub returns-then-read-text : goal.returns-then-read-text
+returns-then-read-text c =
+    let a = c.args in
+    rw (c.into-then-read-text.ensures, c.new.ensures)
+    (answer_sign a.n a.text.now a.out.now (sym c.is_size.ensures ∙ c.if-not-is_size.false) _ c.in_ok-read.ensures c.if-read-text.true)
 
-pub returns-then-out-next : goal.returns-then-out-next
-returns-then-out-next c =
-    let a = c.args in answer_short a.n a.text.now a.out.now (fine (goal.at.returns-then-out-next c).Else-not-is_size) c.measure-r.ensures c.in-Read.is c.if-end-text.false c.if-out-next.true
+pub returns-then-out-read : goal.returns-then-out-read
+returns-then-out-read c =
+    let a = c.args in
+    rw c.into-then-out-read.ensures
+    (answer_short a.n a.text.now a.out.now (sym c.is_size.ensures ∙ c.if-not-is_size.false) _ c.in_ok-read.ensures c.if-read-text.false c.if-out-read.true)
 
-pub returns-in-Read : goal.returns-in-Read
-returns-in-Read c =
-    let a = c.args in answer_good a.n a.text.now a.out.now (fine (goal.at.returns-in-Read c).Else-not-is_size) c.measure-r.ensures c.in-Read.is c.if-end-text.false c.if-out-next.false c.write.ensures
+pub returns : goal.returns
+returns c =
+    let a = c.args in
+    answer_good a.n a.text.now a.out.now (sym c.is_size.ensures ∙ c.if-not-is_size.false) _ c.in_ok-read.ensures c.if-read-text.false c.if-out-read.false c.write.ensures

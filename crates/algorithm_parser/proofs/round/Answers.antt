@@ -1,15 +1,20 @@
-use Prim.Native.Nat.{◌-◌}
-use mathlib.Core.Path.{ap}
-use Rattle.ground.specs.Choice.{pick, between}
 use mathlib.Core.Path.{sym, ◌∙◌}
+use native.Mathlib.Omega.{arith}
+use Rattle.ground.proofs.ChoiceLaws.{between_bounds}
 use Rattle.algorithm_parser.proofs.TellingLaws.{round_bad, round_once, round_more}
 use Rattle.algorithm_parser.proofs.round.Goals as goal
 
 pub returns-then-at-ne41 : goal.returns-then-at-ne41
-returns-then-at-ne41 c = λ start a l. round_bad _ _ l (λ w. c.if-at-ne41.true (c.at.ensures ∙ w))
+returns-then-at-ne41 c = λ start a l. round_bad _ _ l (λ w. c.if-at-ne41.true (c.at.ensures ∙ w)) c.new.ensures
 
-pub returns-then-times-eq0 : goal.returns-then-times-eq0
-returns-then-times-eq0 c = λ start a l. round_once _ _ l (sym c.at.ensures ∙ c.if-at-ne41.false) (c.repeat-times.ensures ∙ ap (λ b. pick (between 49 57 b) (b - 48) 0) c.at-2.ensures) c.if-times-eq0.true
+pub returns-in_default : goal.returns-in_default
+returns-in_default c = λ start a l. round_once _ _ l (sym c.at.ensures ∙ c.if-at-ne41.false) (rw c.at-2.ensures at c.in_default.ensures)
+
+pub put_copies-next-requires : goal.put_copies-next-requires
+put_copies-next-requires c =
+    let d = between_bounds 49 57 _ c.in-Some.ensures.0 in (c.requires.0, omega (arith, d.0, c.in-Some.ensures.1))
 
 pub returns : goal.returns
-returns c = λ start a l. round_more _ _ l (sym c.at.ensures ∙ c.if-at-ne41.false) (c.repeat-times.ensures ∙ ap (λ b. pick (between 49 57 b) (b - 48) 0) c.at-2.ensures) c.requires.0 c.if-times-eq0.false c.put_copies-last.ensures
+returns c = λ start a l.
+    round_more _ _ l (sym c.at.ensures ∙ c.if-at-ne41.false) (rw c.at-2.ensures at c.in-Some.ensures.0) (rw c.at-2.ensures at c.in-Some.ensures.1)
+    c.requires.0 c.put_copies-next.ensures

@@ -7,13 +7,13 @@ use Rattle.algorithm_parser.proofs.moves.invert_part.Goals as goal
 
 -- `invert_part`: the first k codes of the part's inverse are stored; the part itself lies before them.
 pub loop-k-init : goal.loop-k-init
-loop-k-init c = (move_none, omega arith)
+loop-k-init c = move_none
 
 pub loop-k-preserved : goal.loop-k-preserved
-loop-k-preserved c = (let a = c.args in invert_more a.out.now _ a.j a.to a.size _ c.loop-k-test.true c.requires.0 c.requires.1 c.loop-k.invariant.0 c.inverse_code.ensures, omega arith)
+loop-k-preserved c = let a = c.args in invert_more a.out.now _ a.j a.to a.size _ c.loop-k-test.true c.requires.0 c.requires.1 c.loop-k.invariant c.inverse_code.ensures
 
 pub returns : goal.returns
 returns c = let a = c.args in
     let l = length-take-le a.size (drop a.j a.out.now) (omega (arith, c.requires, length-drop a.j a.out.now)) in
     let m = length-inverse (take a.size (drop a.j a.out.now)) in
-    record { before = c.loop-k.invariant.0.before; stored = move_all c.loop-k.invariant.0 (omega arith) }
+    record { before = c.loop-k.invariant.before; stored = move_all c.loop-k.invariant (omega arith) }

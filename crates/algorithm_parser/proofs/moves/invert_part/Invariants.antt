@@ -1,11 +1,7 @@
-use Prim.Native.Nat.{◌-◌, ◌≤◌}
 use lib.ListN.{take, drop}
 use Rattle.move_lists.specs.Lists.{inverse}
 use Rattle.algorithm_parser.proofs.RoomLaws.{Moving}
 use Rattle.algorithm_parser.proofs.moves.invert_part.Given as goal
 
 abbrev pub invariant-loop-k : goal.invariant-loop-k
-invariant-loop-k l = Moving (take l.size (drop l.j l.initial.out)) (inverse (take l.size (drop l.j l.initial.out))) l.initial.out l.to l.out l.k × (l.k ≤ l.size)
-
-abbrev pub decreases-loop-k : goal.decreases-loop-k
-decreases-loop-k l = l.size - l.k
+invariant-loop-k l = Moving (take l.size (drop l.j l.initial.out)) (inverse (take l.size (drop l.j l.initial.out))) l.initial.out l.to l.out l.k

@@ -1,9 +1,5 @@
-use Prim.Native.Nat.{◌-◌}
 use Rattle.algorithm_parser.proofs.RoomLaws.{Repeating}
 use Rattle.algorithm_parser.proofs.moves.put_copies.Given as goal
 
 abbrev pub invariant-loop-c : goal.invariant-loop-c
-invariant-loop-c l = Repeating l.cap l.initial.out l.j l.mid l.times l.out l.end l.c
-
-abbrev pub decreases-loop-c : goal.decreases-loop-c
-decreases-loop-c l = l.times - l.c
+invariant-loop-c l = Repeating l.cap l.initial.out l.j l.mid l.times l.out l.end l._c
