@@ -78,8 +78,10 @@ impl Answer for Result<Option<usize>, Refusal> {
 
     fn pack(self) -> u64 {
         match self {
-            Ok(None) => pack_of(0, 0),
-            Ok(Some(count)) => pack_of(0, count.saturating_add(1)),
+            Ok(found) => match found {
+                None => pack_of(0, 0),
+                Some(count) => pack_of(0, count.saturating_add(1)),
+            },
             Err(refusal) => pack_of(refusal.into(), 0),
         }
     }
