@@ -1,23 +1,24 @@
 -- The order of keys is a strict order, and a walk along two keys finds it.
 use mathlib.Core.Path.{◌≡◌, refl, sym, ap, ap₂, ◌∙◌}
-use mathlib.Core.List.{List, [], ◌∷◌}
+use mathlib.Core.List.{List}
 use mathlib.Core.Bool.{Bool, true, false, true≢false}
 use Rattle.std.specs.Prelude.{IsTrue, ◌↔◌}
-use Rattle.std.specs.Cmp.{Equal-is}
+use Rattle.std.specs.Cmp.{Equal-is, unsigned_ties}
+use Rattle.std.specs.Cmp.Lexicographic.{lists_ties}
+use Rattle.std.proofs.lemmas.Cmp.{tied_itself, nat_list_cmp_total}
+use lib.Pointwise.{bytes_decides}
 use Prim.Native.Nat.{ℕ, zero, suc, ◌+◌, ◌*◌, ◌/◌, ◌≤◌, ◌<◌}
 use native.Mathlib.Nat.{add-zero}
 use native.Mathlib.Numerals.{add-one}
 use native.Mathlib.Omega.{arith}
-use lib.Dec.{ltb}
 use lib.ListN.{length, drop, get_or, drop_of_length-le}
 use lib.Seq.{drop-cons}
-use borrow.Author.Tests.{lt-ltb, le-ltb, ne_eqb}
-use Rattle.ground.specs.Choice.{pick}
+use borrow.Author.Tests.{lt-ltb, le-ltb, eq-eqb, ne_eqb}
 use Rattle.ground.proofs.ChoiceLaws.{order_cases}
 use Rattle.std.specs.declared.cmp.Ordering.{Ordering}
 use Rattle.std.specs.declared.cmp.Ordering.TheVariants.{Less, Equal, Greater}
 use Rattle.table.specs.Order.{order_of}
-use Rattle.std.specs.Ordering.{is_eq, is_lt, nat_cmp}
+use Rattle.std.specs.Ordering.{is_eq, is_lt, nat_cmp, ordering_then, ordering_reverse}
 use Rattle.table.specs.Inner.{word_of}
 
 -- an order is one of three
@@ -26,78 +27,25 @@ order_split Less f g h = f refl
 order_split Equal f g h = g refl
 order_split Greater f g h = h refl
 
--- two keys with a byte in front of each
-data View (a b : ℕ) (x y : List ℕ) : Type 0 where
-  below : a < b → order_of (a ∷ x) (b ∷ y) ≡ Less → View a b x y
-  above : b < a → order_of (a ∷ x) (b ∷ y) ≡ Greater → View a b x y
-  level : a ≡ b → order_of (a ∷ x) (b ∷ y) ≡ order_of x y → View a b x y
-
-view : (a b : ℕ) (x y : List ℕ) → View a b x y
-unfolding order_of
-view a b x y =
-    order_cases a b
-    (λ h. below h (rw (lt-ltb a b h)))
-    (λ h. level h (rw (le-ltb a b (omega arith), le-ltb b a (omega arith))))
-    (λ h. above h (rw (le-ltb a b (omega arith), lt-ltb b a h)))
-
-less_same : Less ≡ Equal → ⊥
-less_same e = let z : ◌≡◌ {A = ℕ} 0 1 = cc in omega arith
-
-more_same : Greater ≡ Equal → ⊥
-more_same e = let z : ◌≡◌ {A = ℕ} 0 1 = cc in omega arith
-
-more_less : Greater ≡ Less → ⊥
-more_less e = let z : ◌≡◌ {A = ℕ} 0 1 = cc in omega arith
-
+-- the order's laws are std's of lists of numbers
 pub same_eq : (x y : List ℕ) → order_of x y ≡ Equal → x ≡ y
 unfolding order_of
-same_eq [] [] e = refl
-same_eq [] (b ∷ y) e = absurd (less_same e)
-same_eq (a ∷ x) [] e = absurd (more_same e)
-same_eq (a ∷ x) (b ∷ y) e = go (same_eq x y) (view a b x y)
-  where
-    go : (order_of x y ≡ Equal → x ≡ y) → View a b x y → a ∷ x ≡ b ∷ y
-    go rec (below h g) = absurd (less_same (sym g ∙ e))
-    go rec (above h g) = absurd (more_same (sym g ∙ e))
-    go rec (level h g) = ap₂ ◌∷◌ h (rec (sym g ∙ e))
+same_eq x y e = (bytes_decides x y).0 (lists_ties nat_cmp unsigned_ties x y ∙ ap is_eq e)
 
 pub eq_same : (x : List ℕ) → order_of x x ≡ Equal
 unfolding order_of
-eq_same [] = refl
-eq_same (a ∷ x) = rw (le-ltb a a (omega arith)) (eq_same x)
+eq_same x = tied_itself nat_list_cmp_total x
 
 pub more_flip : (x y : List ℕ) → order_of x y ≡ Greater → order_of y x ≡ Less
 unfolding order_of
-more_flip [] [] e = absurd (more_same (sym e))
-more_flip [] (b ∷ y) e = absurd (more_less (sym e))
-more_flip (a ∷ x) [] e = refl
-more_flip (a ∷ x) (b ∷ y) e = go (more_flip x y) (view a b x y)
-  where
-    go : (order_of x y ≡ Greater → order_of y x ≡ Less) → View a b x y → order_of (b ∷ y) (a ∷ x) ≡ Less
-    go rec (below h g) = absurd (more_less (sym e ∙ g))
-    go rec (above h g) = rw (lt-ltb b a h)
-    go rec (level h g) = rw (le-ltb b a (omega arith), le-ltb a b (omega arith)) (rec (sym g ∙ e))
+more_flip x y e = nat_list_cmp_total.antisymm y x ∙ ap ordering_reverse e
 
 pub less_trans : (x y z : List ℕ) → order_of x y ≡ Less → order_of y z ≡ Less → order_of x z ≡ Less
 unfolding order_of
-less_trans [] [] z p q = absurd (less_same (sym p))
-less_trans [] (b ∷ y) [] p q = absurd (more_less q)
-less_trans [] (b ∷ y) (c ∷ z) p q = refl
-less_trans (a ∷ x) [] z p q = absurd (more_less p)
-less_trans (a ∷ x) (b ∷ y) [] p q = absurd (more_less q)
-less_trans (a ∷ x) (b ∷ y) (c ∷ z) p q = go (less_trans x y z) (view a b x y) (view b c y z)
-  where
-    go : (order_of x y ≡ Less → order_of y z ≡ Less → order_of x z ≡ Less) → View a b x y → View b c y z → order_of (a ∷ x) (c ∷ z) ≡ Less
-    go rec (above h g) v = absurd (more_less (sym g ∙ p))
-    go rec (below h g) (above h' g') = absurd (more_less (sym g' ∙ q))
-    go rec (level h g) (above h' g') = absurd (more_less (sym g' ∙ q))
-    go rec (below h g) (below h' g') = rw (lt-ltb a c (omega arith))
-    go rec (below h g) (level h' g') = rw (lt-ltb a c (omega arith))
-    go rec (level h g) (below h' g') = rw (lt-ltb a c (omega arith))
-    go rec (level h g) (level h' g') = rw (le-ltb a c (omega arith), le-ltb c a (omega arith)) (rec (sym g ∙ p) (sym g' ∙ q))
+less_trans = nat_list_cmp_total.trans
 
 pub less_irrefl : (x : List ℕ) → order_of x x ≡ Less → ⊥
-less_irrefl x e = less_same (sym e ∙ eq_same x)
+less_irrefl x e = let z : ◌≡◌ {A = Ordering} Less Equal = sym e ∙ eq_same x in let q : ◌≡◌ {A = ℕ} 0 1 = cc in omega arith
 
 -- the test of a key that was read
 pub same_told : {x y z : List ℕ} {o : Ordering} {b : Bool} → x ≡ z → o ≡ order_of x y → b ≡ is_eq o → IsTrue b ↔ (z ≡ y)
@@ -118,7 +66,7 @@ less_not_same x y h = rw h
 
 -- two numbers decide how keys stand, or leave it to what follows them
 unfoldable pub decided : ℕ → ℕ → Ordering → Ordering
-decided v w rest = pick (ltb v w) Less (pick (ltb w v) Greater rest)
+decided v w rest = ordering_then (nat_cmp v w) rest
 
 module _ {v w : ℕ} (rest : Ordering) where
   pub decided_less : v < w → decided v w rest ≡ Less
@@ -127,11 +75,11 @@ module _ {v w : ℕ} (rest : Ordering) where
 
   pub decided_more : w < v → decided v w rest ≡ Greater
   unfolding decided
-  decided_more gt = rw (le-ltb v w (omega arith), lt-ltb w v gt)
+  decided_more gt = rw (le-ltb v w (omega arith), ne_eqb v w (λ e. omega arith))
 
   pub decided-next : w ≤ v → v ≤ w → decided v w rest ≡ rest
   unfolding decided
-  decided-next le ge = rw (le-ltb v w le, le-ltb w v ge)
+  decided-next le ge = rw (le-ltb v w le, eq-eqb v w (omega arith))
 
   pub decided_other : (v ≡ w → ⊥) → decided v w rest ≡ nat_cmp v w
   decided_other ne =

@@ -1,14 +1,12 @@
 -- The order of keys: byte by byte, from the front.
-use Rattle.std.specs.Prelude.{List, [], ◌∷◌, ℕ, ltb}
+use Rattle.std.specs.Prelude.{List, ℕ}
 use Rattle.std.specs.declared.cmp.Ordering.{Ordering}
 use Rattle.std.specs.declared.cmp.Ordering.TheVariants.{Less, Equal, Greater}
-use Rattle.ground.specs.Choice.{pick}
+use Rattle.std.specs.Ordering.{nat_cmp}
+use Rattle.std.specs.Cmp.Lexicographic.{slice_cmp}
 
 unfoldable pub order_of : List ℕ → List ℕ → Ordering
-order_of [] [] = Equal
-order_of [] (b ∷ y) = Less
-order_of (a ∷ x) [] = Greater
-order_of (a ∷ x) (b ∷ y) = pick (ltb a b) Less (pick (ltb b a) Greater (order_of x y))
+order_of x y = slice_cmp nat_cmp x y
 
 -- a choice by an order
 abbrev pub by_order {ℓ} : {A : Type ℓ} → Ordering → A → A → A → A

@@ -24,7 +24,10 @@ fn four(s: &[u8], j: usize) -> u32
     requires { j + 4 ≤ length s.now }
     ensures { (result ≡ four_of s.now j) × (result < 4294967296) }
 {
-    65536 * two(s, j) + two(s, j + 2)
+    16777216 * u32::from(s[j])
+        + 65536 * u32::from(s[j + 1])
+        + 256 * u32::from(s[j + 2])
+        + u32::from(s[j + 3])
 }
 
 // Six bytes as a number: words stand as their bytes do.

@@ -297,25 +297,6 @@ staged_large g =
       new = g.new;
     }
 
--- building begins
-pub staged_first : (n : ℕ) (starts moves : List ℕ) (depth : ℕ) (t : List ℕ) (large : Bool)
-    → Staged n starts moves depth t (record { number = 0; from = 0; last = length starts / stickers n; base = 0; count = 0; large = large })
-staged_first n starts moves depth t large =
-    record {
-      room = omega arith;
-      within = omega arith;
-      begun = omega arith;
-      ended = λ h. refl;
-      first = λ q. (refl, refl, refl);
-      later = λ f. absurd (f refl);
-      distinct = λ i j lt h. absurd (omega arith);
-      right = λ i h. absurd (omega arith);
-      whole = λ j s h r. absurd (omega arith);
-      old = λ i a b. absurd (omega arith);
-      front = λ i a b. absurd (omega arith);
-      new = λ i a b. absurd (omega arith);
-    }
-
 -- over the slice as it was before
 pub outnumbered_on : (n : ℕ) (starts moves : List ℕ) (depth : ℕ) {t t' : List ℕ} {count count' : ℕ} → Stayed (stickers n) t count t' count'
     → Outnumbered n starts moves depth t' → Outnumbered n starts moves depth t
@@ -366,8 +347,3 @@ swept_all s k low high f r x = f x.at x.low x.high r x.due (omega arith, omega (
 -- the calls that are left: one, from the small index to the large one
 abbrev pub tier : Bool → ℕ
 tier large = pick large 0 1
-
-pub tier_falls : (a b : Bool) {t : ℕ} → tier a ≡ t → a ≡ false → b ≡ true → tier b < t
-tier_falls true b e f g = absurd (true≢false f)
-tier_falls false true e f g = omega arith
-tier_falls false false e f g = absurd (true≢false (sym g))
