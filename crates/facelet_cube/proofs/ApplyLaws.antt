@@ -23,7 +23,7 @@ use Rattle.geometric_moves.specs.Turn.{moved, run}
 use Rattle.geometric_moves.proofs.MovedLaws.{length_moved}
 use Rattle.facelet_cube.specs.Inner.{Whole, Runnable}
 use Rattle.facelet_cube.specs.Cube.{cube_rows, cube_refusal}
-use Rattle.facelet_cube.proofs.CubeLaws.{refused_here, taken_here, size_taken}
+use Rattle.facelet_cube.proofs.CubeLaws.{refused_here, taken_here, sized_rows}
 use Rattle.facelet_cube.specs.Apply.{apply_rows, apply_refusal, ApplyMovesResult}
 
 -- nothing is refused
@@ -81,16 +81,16 @@ module _ (n cube work : ℕ) (moves : List ℕ) where
   apply_cube e = refused_here n cube (2 when not (eqb work (stickers n)) ∷ list_rows n moves) refl e
 
   module _ (w : Whole n cube) where
-    behind_cube : apply_refusal n cube work moves ≡ lowest (cube_rows n work ++ list_rows n moves)
+    apply_behind_cube : apply_refusal n cube work moves ≡ lowest (cube_rows n work ++ list_rows n moves)
     unfolding apply_refusal
-    behind_cube = taken_here n cube (2 when not (eqb work (stickers n)) ∷ list_rows n moves) w ∙ size_taken n work (list_rows n moves) w.size
+    apply_behind_cube = taken_here n cube (2 when not (eqb work (stickers n)) ∷ list_rows n moves) w ∙ sized_rows n work (list_rows n moves) w.size
 
     pub apply_work : {r : Refusal} → Err r ≡ done (cube_refusal n work) → Err r ≡ done (apply_refusal n cube work moves)
-    apply_work e = refused_here n work (list_rows n moves) behind_cube e
+    apply_work e = refused_here n work (list_rows n moves) apply_behind_cube e
 
     pub apply_moves_rows : Whole n work → apply_refusal n cube work moves ≡ list_refusal n moves
     unfolding list_refusal
-    apply_moves_rows k = behind_cube ∙ taken_here n work (list_rows n moves) k
+    apply_moves_rows k = apply_behind_cube ∙ taken_here n work (list_rows n moves) k
 
 -- the entry: refused, and done
 pub apply_refused : (n : ℕ) (cube work moves : List ℕ) {r : Refusal} → Err r ≡ done (apply_refusal n (length cube) (length work) moves)

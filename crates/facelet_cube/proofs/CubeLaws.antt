@@ -23,7 +23,7 @@ use Rattle.generic_cube.specs.Inner.{Sized}
 use Rattle.generic_cube.proofs.AnswerLaws.{err_number}
 use Rattle.generic_cube.proofs.CodeLaws.{size_in_range, bounds_sized}
 use Rattle.ground.proofs.PutLaws.{get_d_from}
-use Rattle.facelet_cube.specs.Facelets.{Pointwise}
+use Rattle.facelet_cube.specs.InnerFacelets.{Pointwise}
 use Rattle.facelet_cube.specs.Inner.{Whole, Masks}
 use Rattle.facelet_cube.specs.Cube.{cube_rows, cube_refusal, one_byte, face_stickers, large_id, mask_rows, mask_refusal, masked}
 
@@ -47,9 +47,9 @@ module _ (n long : ℕ) (more : List Row) where
   unfolding cube_refusal
   taken_here w = lowest_behind (cube_rows n long) more (passed (cube_rows n long) refl (whole_cube w))
 
-  pub size_taken : Sized n → lowest (2 when not (eqb long (stickers n)) ∷ more) ≡ lowest (cube_rows n long ++ more)
+  pub sized_rows : Sized n → lowest (2 when not (eqb long (stickers n)) ∷ more) ≡ lowest (cube_rows n long ++ more)
   unfolding lowest
-  size_taken z = rw (bounds_sized n z.some z.size)
+  sized_rows z = rw (bounds_sized n z.some z.size)
 
 -- the checks of a mask: the cube, the ids, the keep slice, and then the ids themselves
 module _ (n cube : ℕ) (ids : List ℕ) (keep : ℕ) where
@@ -64,26 +64,26 @@ module _ (n cube : ℕ) (ids : List ℕ) (keep : ℕ) where
   mask_cube e = refused_here n cube (2 when not (eqb (length ids) (stickers n)) ∷ mask_ids_rows) refl e
 
   module _ (w : Whole n cube) where
-    behind_cube : mask_refusal n cube ids keep ≡ lowest (cube_rows n (length ids) ++ mask_ids_rows)
+    mask_behind_cube : mask_refusal n cube ids keep ≡ lowest (cube_rows n (length ids) ++ mask_ids_rows)
     unfolding mask_refusal mask_ids_rows
-    behind_cube =
-        taken_here n cube (2 when not (eqb (length ids) (stickers n)) ∷ mask_ids_rows) w ∙ size_taken n (length ids) mask_ids_rows w.size
+    mask_behind_cube =
+        taken_here n cube (2 when not (eqb (length ids) (stickers n)) ∷ mask_ids_rows) w ∙ sized_rows n (length ids) mask_ids_rows w.size
 
     pub mask_ids : {r : Refusal} → Err r ≡ done (cube_refusal n (length ids)) → Err r ≡ done (mask_refusal n cube ids keep)
-    mask_ids e = refused_here n (length ids) mask_ids_rows behind_cube e
+    mask_ids e = refused_here n (length ids) mask_ids_rows mask_behind_cube e
 
     module _ (i : Whole n (length ids)) where
-      behind_ids : mask_refusal n cube ids keep ≡ lowest (cube_rows n keep ++ large_row)
+      mask_behind_ids : mask_refusal n cube ids keep ≡ lowest (cube_rows n keep ++ large_row)
       unfolding mask_ids_rows large_row
-      behind_ids = behind_cube ∙ taken_here n (length ids) mask_ids_rows i ∙ size_taken n keep large_row w.size
+      mask_behind_ids = mask_behind_cube ∙ taken_here n (length ids) mask_ids_rows i ∙ sized_rows n keep large_row w.size
 
       pub mask_keep : {r : Refusal} → Err r ≡ done (cube_refusal n keep) → Err r ≡ done (mask_refusal n cube ids keep)
-      mask_keep e = refused_here n keep large_row behind_ids e
+      mask_keep e = refused_here n keep large_row mask_behind_ids e
 
       pub mask_index : {t : Bool} → Whole n keep → t ≡ large_id cube ids → mask_refusal n cube ids keep ≡ pick t 10 0
       unfolding large_row lowest
       mask_index k e =
-          behind_ids ∙ taken_here n keep large_row k ∙ ap (λ x. pick x 10 0) (ap (λ m. large_id m ids) (sym w.long_is) ∙ sym e)
+          mask_behind_ids ∙ taken_here n keep large_row k ∙ ap (λ x. pick x 10 0) (ap (λ m. large_id m ids) (sym w.long_is) ∙ sym e)
 
 pub masks : (n cube : ℕ) (ids : List ℕ) (keep : ℕ) → mask_refusal n cube ids keep ≡ 0 → Masks n cube ids keep
 unfolding mask_refusal

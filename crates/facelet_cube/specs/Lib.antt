@@ -1,4 +1,4 @@
 pub mod Cube
 pub mod Apply
 pub mod Inner
-pub mod Facelets
+pub mod InnerFacelets

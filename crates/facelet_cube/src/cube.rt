@@ -10,7 +10,7 @@ use ground::refusals::Refusal;
 
 // The refusal of a slice that is to be a cube.
 #[tactic(auto, using(generic_cube::proofs::CodeLaws::sized_bounds, sticker::proofs::PlaceLaws::room), unfolding(crate::specs::Cube::cube_refusal, ground::specs::Refusals::lowest))]
-pub fn check_cube(n: usize, long: usize) -> Result<(), Refusal>
+pub(crate) fn check_cube(n: usize, long: usize) -> Result<(), Refusal>
     ensures { result ≡ done (cube_refusal n long) }
 {
     if !generic_cube::is_size(n) {

@@ -7,7 +7,7 @@ ghost use Rattle.generic_cube.specs.Answers.{done};
 ghost use Rattle.generic_cube.specs.Inner.{Sized};
 ghost use Rattle.generic_cube.specs.Sizes.{stickers, letters};
 ghost use Rattle.facelet_cube.specs.Apply.{apply_refusal};
-ghost use Rattle.facelet_cube.specs.Facelets.{Pointwise, plain};
+ghost use Rattle.facelet_cube.specs.InnerFacelets.{Pointwise, plain};
 
 use generic_cube::stickers::LETTERS;
 use ground::codes::MoveCode;

@@ -10,7 +10,7 @@ use Rattle.generic_cube.specs.Answers.{done}
 use Rattle.geometric_moves.specs.Turn.{run}
 use Rattle.facelet_cube.specs.Apply.{apply_refusal, ApplyMovesResult}
 use Rattle.facelet_cube.proofs.ApplyLaws.{runnable, apply_refused, apply_done}
-use Rattle.facelet_cube.specs.Facelets.{Pointwise}
+use Rattle.facelet_cube.specs.InnerFacelets.{Pointwise}
 use Rattle.facelet_lanes.specs.declared.Ring.{Ring}
 use Rattle.facelet_lanes.specs.InnerLanes.{place_on, prior, CellFits, LineFits}
 use Rattle.facelet_lanes.proofs.LaneLaws.{LineDone, line_more}

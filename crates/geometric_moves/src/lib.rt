@@ -154,7 +154,7 @@ impl Rotation {
     }
 
     // This quarter turn t times: 2 is a half turn, 3 is a half turn and a quarter.
-    #[tactic(auto, using(crate::proofs::RotationLaws::turn_two), unfolding(crate::specs::Turn::turn_of))]
+    #[tactic(auto, using(crate::proofs::RotationLaws::turn_two, crate::proofs::RotationLaws::turn_three), unfolding(crate::specs::Turn::turn_of))]
     pub fn times(self, t: usize) -> Rotation
         requires { t ≤ 3 }
         ensures { result ≡ turn_of t self }
