@@ -1,8 +1,8 @@
 -- Each refusal that the readers give has a number of the rules' table.
 use Prim.Native.Nat.{ℕ, zero, suc, ◌+◌, ◌-◌, ◌≤◌, ◌<◌}
-use mathlib.Core.Path.{◌≡◌, refl, sym, ap, subst, ◌∙◌}
+use mathlib.Core.Path.{◌≡◌, refl, sym, ap, subst}
 use mathlib.Core.Bool.{Bool, true, false, ◌||◌}
-use mathlib.Core.List.{List, []}
+use mathlib.Core.List.{List}
 use native.Mathlib.Omega.{arith}
 use lib.Dec.{eqb}
 use lib.ListN.{length, get_or, take, drop}
@@ -13,10 +13,10 @@ use Rattle.ground.proofs.RefusalLaws.{refusal_back}
 use Rattle.tokens.specs.declared.Fault.{Fault}
 use Rattle.tokens.specs.Inner.{Found}
 use Rattle.tokens.specs.Token.{read_token}
-use Rattle.tokens.specs.Words.{group_signs, words_from}
+use Rattle.tokens.specs.Words.{group_signs}
 use Rattle.tokens.proofs.WordLaws.{first_word}
-use Rattle.scramble_parser.specs.Parse.{Reading, codes, bad}
-use Rattle.algorithm_parser.specs.Algorithm.{Alg, repeated}
+use Rattle.scramble_parser.specs.Parse.{bad}
+use Rattle.algorithm_parser.specs.Algorithm.{Alg}
 use Rattle.algorithm_parser.specs.Groups.{Outcome, means, wrong, and_then, front, Sort, opening, other, token, sort_of, token_then, word_then, round_end, square_end, paired, second_then, group_then, sequence_of, group_of, sequence_calls, group_calls, sequence_at, whole, read_algorithm, expanded, algorithm_reading}
 use Rattle.algorithm_parser.proofs.ReaderLaws.{word_of, word_ends, calls_none, calls_word, Sound, Fine, parting_within, sequence_fine, group_fine}
 

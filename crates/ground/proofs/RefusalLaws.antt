@@ -14,7 +14,20 @@ use Rattle.std.specs.Result.{IsErrAnd}
 use Rattle.ground.specs.Choice.{pick}
 use Rattle.ground.specs.declared.refusals.Refusal.{Refusal}
 use Rattle.ground.specs.declared.refusals.Refusal.TheVariants.{
-  Size, Length, Code, Width, Room, Bounds, Table, Work, Index, Letter, Digits, Ending, Sign, Level,
+  Size,
+  Length,
+  Code,
+  Width,
+  Room,
+  Bounds,
+  Table,
+  Work,
+  Index,
+  Letter,
+  Digits,
+  Ending,
+  Sign,
+  Level,
 }
 use Rattle.ground.specs.Refusals.{Row, lowest, number_of, refusal, listed}
 use Rattle.ground.proofs.ChoiceLaws.{bool_cases}

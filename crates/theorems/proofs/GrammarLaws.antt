@@ -15,8 +15,7 @@ use Rattle.generic_cube.specs.declared.Move.{Move}
 use Rattle.generic_cube.specs.Code.{move, move_of, code_of, is_wide, bad_width_in}
 use Rattle.generic_cube.proofs.AllMovesLaws.{holds_at}
 use Rattle.generic_cube.proofs.CodeLaws.{code_move, move_code, inside, inside_not}
-use Rattle.std.specs.Prelude.{Result, Ok, Err}
-use Rattle.tokens.specs.declared.Fault.{Fault}
+use Rattle.std.specs.Prelude.{Ok, Err}
 use Rattle.tokens.specs.Token.{fault, digit_of, is_digit, digits_of, number_of, token_width, kind_letters, letter_of, letter_at, is_wide_token, plain_kind, mark_of, suffix_at, token_end, token_move, bad_token_width, unless_fault, read_behind, read_token}
 use Rattle.tokens.proofs.TokenLaws.{digit_back, plain_kind_lem, wide_of, wide_letter, parts_digits, parts_letter, parts_w, parts_width, end_left, Formed, token_code, wide_move, plain_move, suffix_wide, suffix_plain}
 use Rattle.theorems.specs.Notation.{Suffix, quarter_mark, half_mark, counter_mark, Width, no_digits, one_digit, two_digits, three_digits, Shaped, plain_token, wide_token, WidthTaken, Spelled, Accepts, AcceptsNoOther}

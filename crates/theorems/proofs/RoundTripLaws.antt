@@ -3,20 +3,17 @@ use Prim.Native.Nat.{ℕ, ◌+◌, ◌-◌, ◌≤◌}
 use mathlib.Core.Path.{◌≡◌, refl, ap, ◌∙◌}
 use mathlib.Core.Bool.{true, false}
 use mathlib.Core.List.{List, [], ◌∷◌, ◌++◌}
-use native.Mathlib.Omega.{arith}
 use lib.ListN.{length, take, drop}
 use lib.Seq.{take-append_seam}
-use lib.Dec.{ltb, eqb}
-use borrow.Author.Tests.{le-ltb, eqb-true}
-use Rattle.std.specs.Prelude.{Result, Ok, Err}
+use lib.Dec.{ltb}
+use borrow.Author.Tests.{le-ltb}
+use Rattle.std.specs.Prelude.{Result, Ok}
 use Rattle.tokens.specs.declared.Fault.{Fault}
 use Rattle.generic_cube.proofs.AnswerLaws.{ok_number}
 use Rattle.ground.specs.Choice.{any}
 use Rattle.ground.specs.Lists.{each}
 use Rattle.ground.specs.Refusals.{◌when◌, lowest}
-use Rattle.ground.proofs.ChoiceLaws.{bool_cases}
 use Rattle.ground.proofs.RefusalLaws.{passed, lowest_behind}
-use Rattle.generic_cube.specs.Answers.{answer}
 use Rattle.generic_cube.specs.Code.{rows_in, refusal_in}
 use Rattle.generic_cube.proofs.CodeLaws.{sized_bounds, Good, AllGood, taken_good}
 use Rattle.tokens.specs.Words.{is_space, ends_word, word_bytes, words}
