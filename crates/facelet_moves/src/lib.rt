@@ -46,7 +46,8 @@ fn cycle_line<T: Facelet>(t: usize, p: usize, count: usize, ring: Ring, cube: &m
     }
 }
 
-// `lines` lines of a ring from `first` on, `count` places of each.
+// `lines` lines of a ring from `first` on, `count` places of each. Size and turn go beside the cube here and below: a struct that borrows the
+// cube with them would be no plainer, as each contract names all three.
 fn turn_ring<T: Facelet>(
     n: usize,
     t: usize,
