@@ -16,6 +16,7 @@ pub const CLASSES: usize = 1024;
 const RUN: usize = 64;
 
 // The classes of keys that an index holds, from `low` up to `high`; or, plainly, that there is no index and the entries are walked.
+// `plain` is no mark on the two bounds, which hold either way, so an enum of two structs would say no more.
 #[derive(Clone, Copy, Debug, PartialEq, Eq)]
 pub struct Classes {
     pub low: usize,

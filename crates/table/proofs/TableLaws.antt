@@ -17,7 +17,6 @@ use Rattle.std.specs.declared.cmp.Ordering.TheVariants.{Less, Equal, Greater}
 use Rattle.table.specs.Order.{order_of}
 use Rattle.std.specs.Ordering.{is_eq, is_lt}
 use Rattle.table.proofs.OrderLaws.{order_split, same_eq, eq_same, more_flip, less_trans, less_irrefl, is_less_lem, less_not_same}
-use Rattle.table.specs.Inner.{KeyLength}
 use Rattle.table.specs.Table.{Entry, numbered, entry_count, first_entries, entries_of, number_for, keys_rise, state_number, well_formed}
 use Rattle.table.specs.Entries.{entry_key, entry_number, Rising}
 
@@ -29,10 +28,6 @@ fits m i t lt =
 
 pub length_key : (m i : ℕ) (t : List ℕ) → i < entry_count m t → length (entry_key m t i) ≡ m
 length_key m i t lt = length-take-le m (drop (i * (m + 1)) t) (omega (arith, fits m i t lt, length-drop (i * (m + 1)) t))
-
--- and its key can be compared with one of its length
-pub comparable : {m n : ℕ} {s : List ℕ} (t : List ℕ) (i : ℕ) → KeyLength m → i < entry_count m t → n ≡ m → s ≡ entry_key m t i → (length s ≡ n) × (length s % 6 ≡ 0)
-comparable {m} t i k h long e = let l = ap length e ∙ length_key m i t h in (l ∙ sym long, ap (λ (n : ℕ). n % 6) l ∙ k.words)
 
 -- there are no more entries than bytes
 pub entries_most : (m : ℕ) (t : List ℕ) → entry_count m t ≤ length t

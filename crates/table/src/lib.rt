@@ -4,7 +4,6 @@
 
 ghost use Rattle.std.specs.Prelude.{ℕ, ◌≡◌, true, ◌+◌, ◌%◌, ◌≤◌, ◌<◌, ◌↔◌, length, IsTrue};
 ghost use Rattle.std.specs.Option.{unwrap_or};
-ghost use Rattle.table.specs.Order.{order_of};
 ghost use Rattle.table.specs.Entries.{entry_key, entry_number};
 ghost use Rattle.table.specs.Table.{entry_count, entries_of, number_for, state_number, well_formed};
 ghost use Rattle.table.specs.Inner.{two_of, four_of, word_of, KeyLength, Lookup};
@@ -30,27 +29,12 @@ fn four(s: &[u8], j: usize) -> u32
         + u32::from(s[j + 3])
 }
 
-// Six bytes as a number: words stand as their bytes do.
+// Six bytes as a number.
 pub fn word(s: &[u8], j: usize) -> usize
     requires { j + 6 ≤ length s.now }
     ensures { (result ≡ word_of s.now j) × (result < 281474976710656) }
 {
     65536 * (four(s, j) as usize) + (two(s, j + 4) as usize)
-}
-
-// How two keys stand, by words.
-pub fn compare(a: &[u8], b: &[u8]) -> Ordering
-    requires { (length a.now ≡ length b.now) × (length a.now % 6 ≡ 0) }
-    ensures { result ≡ order_of a.now b.now }
-{
-    for i in 0..a.len() / 6 {
-        let x = word(a, 6 * i);
-        let y = word(b, 6 * i);
-        if x != y {
-            return x.cmp(&y);
-        }
-    }
-    Ordering::Equal
 }
 
 // Entries in a slice: keys of m bytes, each with its number behind it.
@@ -83,7 +67,7 @@ impl<'a> Entries<'a> {
         requires { (i < entry_count self.m self.bytes.now) × (length key.now ≡ self.m) }
         ensures { IsTrue result ↔ (entry_key self.entry.m self.entry.bytes.now i ≡ key.now) }
     {
-        compare(self.key(i), key).is_eq()
+        self.key(i) == key
     }
 
     // The number of entry i.
@@ -104,7 +88,7 @@ impl<'a> Entries<'a> {
         while 0 < span {
             let half = span / 2;
             let mid = low + half;
-            match compare(self.key(mid), key) {
+            match self.key(mid).cmp(key) {
                 Ordering::Equal => return Some(self.number(mid)),
                 Ordering::Less => {
                     low = mid + 1;
@@ -136,7 +120,7 @@ pub fn is_well_formed(table: &[u8], m: usize) -> bool
     }
     let entries = Entries { bytes: table, m };
     for i in 1..entries.count() {
-        if !compare(entries.key(i - 1), entries.key(i)).is_lt() {
+        if !entries.key(i - 1).cmp(entries.key(i)).is_lt() {
             return false;
         }
     }

@@ -41,7 +41,7 @@ fn more_passes(stage: Stage, moves: usize, slots: usize) -> usize
     stage.count / (room / ((base - 1) / from + 1) + 1)
 }
 
-// How many classes to take at once; none where the numbers of the entries that fit would not fit a slot.
+// How many classes to take at once, a width of `table_level`'s; none where the numbers of the entries that fit would not fit a slot.
 fn guess(stage: Stage, moves: usize, slots: usize, fits: usize) -> usize
     requires { moves ≤ 255 }
     ensures { (result ≤ classes) × ((result ≡ 0 → ⊥) → fits < 4294967295) }

@@ -33,7 +33,7 @@ pub enum Halt {
 
 // Where building stands: the level whose entries get `number` is due, for the sources from `from` up to `last`; its entries begin at
 // `base`, and `count` are there. Sources are the starting cubes for level 0, else the entries of the level before. A small index serves
-// until it is outgrown.
+// until it is outgrown. `large` is a fact of its own beside numbers that hold either way, so an enum of two structs would say no more.
 #[derive(Clone, Copy, Debug, PartialEq, Eq)]
 pub struct Stage {
     pub number: u8,
@@ -243,7 +243,8 @@ fn pass(
     sweep(table, job, stage, next, index, classes)
 }
 
-// The classes from `low` on, that many of them; or all of them, plainly, where the width is 0.
+// The classes from `low` on, that many of them; or all of them, plainly, where the width is 0: halving a width ends there, so an
+// Option would be made of that number again.
 fn classes_from(low: usize, width: usize) -> Classes
     requires { (low < classes) × (width ≤ classes) }
     ensures { (result.low ≡ low) × (low < result.high) × (result.high ≤ classes) × (result.plain ≡ false → 0 < width) }
