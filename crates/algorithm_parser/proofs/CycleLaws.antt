@@ -104,8 +104,8 @@ module _ {n : ℕ} {text : List ℕ} {left i cap : ℕ} {out₀ : List ℕ} {j :
   pub go_end : {s : ℕ} → sequence_at n text left at ≡ means nothing s → Told cap out₀ j (sequence_at n text left i) out (Ok (read_to s next))
   go_end {s} q = g.tells out (Ok (read_to s next)) (subst (λ (o : Outcome). Told cap out next o out (Ok (read_to s next))) (sym q) (refl, expand_nothing))
 
-  pub go_wrong : {k p : ℕ} → sequence_at n text left at ≡ wrong k p → {f : Fault} → f ≡ fault k p → Told cap out₀ j (sequence_at n text left i) out (Err f)
-  go_wrong q {f} z = g.tells out (Err f) (subst (λ (o : Outcome). Told cap out next o out (Err f)) (sym q) z)
+  pub go_wrong : {k p : ℕ} → sequence_at n text left at ≡ wrong k p → Told cap out₀ j (sequence_at n text left i) out (Err (fault k p))
+  go_wrong {k} {p} q = g.tells out (Err (fault k p)) (subst (λ (o : Outcome). Told cap out next o out (Err (fault k p))) (sym q) refl)
 
   -- a group or a token in front of the rest
   module _ (o : Outcome) (q : sequence_at n text left at ≡ and_then o (λ a d. front a (sequence_at n text left d))) (new : List ℕ) where
@@ -191,8 +191,8 @@ module _ (n : ℕ) (text : List ℕ) (left s cap : ℕ) (out : List ℕ) (j : �
           let e : eqb (get_or text s 0) 40 ≡ false = ne_eqb (get_or text s 0) 40 x in
           group_is ∙ ap (λ (y : Bool). group_then y text q.meaning end (sequence_at n text left)) e
 
-      pub group_no_sign : (eqb (get_or text end 0) 44 || eqb (get_or text end 0) 58) ≡ false → {f : Fault} → f ≡ fault 16 end → Told cap out j (group_at n text left s) mid (Err f)
-      group_no_sign y {f} z = subst (λ (o : Outcome). Told cap out j o mid (Err f)) (sym (second_is ∙ ap (λ (t : Bool). second_then t text q.meaning end (sequence_at n text left)) y)) z
+      pub group_no_sign : (eqb (get_or text end 0) 44 || eqb (get_or text end 0) 58) ≡ false → Told cap out j (group_at n text left s) mid (Err (fault 16 end))
+      group_no_sign y = subst (λ (o : Outcome). Told cap out j o mid (Err (fault 16 end))) (sym (second_is ∙ ap (λ (t : Bool). second_then t text q.meaning end (sequence_at n text left)) y)) refl
 
       module _ (y : (eqb (get_or text end 0) 44 || eqb (get_or text end 0) 58) ≡ true) where
         both_is : group_at n text left s ≡ and_then (sequence_at n text left (end + 1)) (λ b d. square_end text (paired (get_or text end 0) q.meaning b) d)

@@ -43,9 +43,9 @@ unfolding expand copies
 copies_more k a h = let e : k ≡ suc (k - 1) = omega arith in ap (λ (m : ℕ). copies m (expand a)) e
 
 module _ {cap : ℕ} (text : List ℕ) (e : ℕ) {start : List ℕ} {j : ℕ} {a : Alg} {out : List ℕ} {next : ℕ} (l : Laid cap start j a out next) where
-  pub round_bad : (get_or text e 0 ≡ 41 → ⊥) → {f : Fault} → f ≡ fault 16 e → Told cap start j (round_end text a e) out (Err f)
+  pub round_bad : (get_or text e 0 ≡ 41 → ⊥) → Told cap start j (round_end text a e) out (Err (fault 16 e))
   unfolding round_end
-  round_bad h q = rw (ne_eqb (get_or text e 0) 41 h) q
+  round_bad h = rw (ne_eqb (get_or text e 0) 41 h) refl
 
   module _ (sign : get_or text e 0 ≡ 41) where
     pub round_once : between 49 57 (get_or text (e + 1) 0) ≡ false → Told cap start j (round_end text a e) out (Ok (read_to (e + 1) next))
@@ -79,9 +79,9 @@ commutator_is sign a b h = rw (eq-eqb sign 44 h) (sym (append_assoc (expand a ++
 
 module _ {cap : ℕ} (text : List ℕ) (sign e : ℕ) {start : List ℕ} {j : ℕ} {a b : Alg} {mid : ℕ} {out : List ℕ} {next : ℕ}
     (l : LaidBoth cap start j a mid b out next) where
-  pub square_bad : (get_or text e 0 ≡ 93 → ⊥) → {f : Fault} → f ≡ fault 16 e → Told cap start j (square_end text (paired sign a b) e) out (Err f)
+  pub square_bad : (get_or text e 0 ≡ 93 → ⊥) → Told cap start j (square_end text (paired sign a b) e) out (Err (fault 16 e))
   unfolding square_end
-  square_bad h q = rw (ne_eqb (get_or text e 0) 93 h) q
+  square_bad h = rw (ne_eqb (get_or text e 0) 93 h) refl
 
   module _ (shut : get_or text e 0 ≡ 93) (h : Behind cap out j mid next) {new : List ℕ} {back : ℕ} (p : Appended cap inverse out j mid next new back) where
     square_told : {last : List ℕ} {r : ℕ} → Filled cap start j (expand (paired sign a b)) last r

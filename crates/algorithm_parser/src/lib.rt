@@ -74,7 +74,7 @@ fn round(source: Source, read: Read, out: &mut [MoveCode], j: usize) -> Result<R
     ensures { (start : List ℕ) (a : Alg) → Laid source.entry.cap start j a out.old read.next → Told source.entry.cap start j (round_end source.entry.text.now a read.end) out.new result }
 {
     if tokens::at(source.text, read.end) != b')' {
-        return Err(Fault::new(Refusal::Sign, read.end));
+        return tokens::refuse(Refusal::Sign, read.end);
     }
     let end = read.end + 1;
     let Some(times) = repeat(tokens::at(source.text, end)) else {
@@ -98,7 +98,7 @@ fn square(
     ensures { (start : List ℕ) (a b : Alg) → LaidBoth source.entry.cap start j a mid b out.old read.next → Told source.entry.cap start j (square_end source.entry.text.now (paired sign a b) read.end) out.new result }
 {
     if tokens::at(source.text, read.end) != b']' {
-        return Err(Fault::new(Refusal::Sign, read.end));
+        return tokens::refuse(Refusal::Sign, read.end);
     }
     let end = read.end + 1;
     let next = moves::put_inverse(out, j, mid, read.next, source.cap);
@@ -126,7 +126,7 @@ fn sequence(
         let first = source.text[word.start];
         if is_opening(first) {
             if left == 0 {
-                return Err(Fault::new(Refusal::Level, word.start));
+                return tokens::refuse(Refusal::Level, word.start);
             }
             read = group(source, word.start, left - 1, out, read.next)?;
             continue;
@@ -163,7 +163,7 @@ fn group(
     }
     let sign = tokens::at(source.text, first.end);
     if !is_parting(sign) {
-        return Err(Fault::new(Refusal::Sign, first.end));
+        return tokens::refuse(Refusal::Sign, first.end);
     }
     let second = sequence(source, first.end + 1, left, out, first.next)?;
     square(source, sign, second, out, j, first.next)
@@ -196,7 +196,11 @@ pub fn parse_algorithm(n: usize, text: &[u8], out: &mut [MoveCode]) -> Result<us
     let source = Source { n, text, cap };
     let read = measure(source)?;
     if read.end < text.len() {
-        return Err(Fault::new(Refusal::Sign, read.end).into());
+        let fault = Fault {
+            refusal: Refusal::Sign,
+            place: read.end,
+        };
+        return Err(fault.into());
     }
     if out.len() < read.next {
         return Err(Refusal::Room.into());

@@ -41,13 +41,14 @@ impl From<Fault> for ParseError {
 }
 
 // Reads a word of the text as a token. The place of its fault is one in the text.
+#[inline(always)]
 pub fn read_word(n: usize, text: &[u8], word: Word) -> Result<MoveCode, Fault>
     requires { (sized n ≡ true) × (word.start ≤ word.end) × (word.end ≤ length text.now) }
     ensures { result ≡ word_read n text.now word }
 {
     match tokens::read_token(n, &text[word.start..word.end]) {
         Ok(code) => Ok(code),
-        Err(fault) => Err(Fault::new(fault.refusal, word.start + fault.place)),
+        Err(fault) => tokens::refuse(fault.refusal, word.start + fault.place),
     }
 }
 

@@ -1,6 +1,6 @@
 -- Laws of tokens: what the parts of one are where nothing is refused, that each code that is read is one that is taken, where a fault can
 -- stand, and the code's ways out.
-use Prim.Native.Nat.{ℕ, zero, suc, ◌+◌, ◌-◌, ◌≤◌, ◌<◌}
+use Prim.Native.Nat.{ℕ, zero, suc, ◌+◌, ◌-◌, ◌/◌, ◌%◌, ◌*◌, ◌^◌, ◌≤◌, ◌<◌}
 use mathlib.Core.Path.{◌≡◌, refl, sym, ap, subst, ◌∙◌}
 use mathlib.Core.Bool.{true, false, true≢false}
 use mathlib.Core.List.{List, [], ◌∷◌}
@@ -8,15 +8,16 @@ use native.Mathlib.Omega.{arith}
 use lib.ListN.{length, get_or, get_or-eq_default}
 use lib.Dec.{ltb, eqb}
 use Rattle.std.specs.Prelude.{Result, Ok, Err}
+use Rattle.std.specs.Bool.{then_some}
 use borrow.Author.Tests.{eq-eqb, ne_eqb, le-ltb, lt-leb, le-leb, eqb-true, eqb-false, ltb-true, ltb-false, leb-false, not-false}
-use Rattle.ground.specs.Choice.{position, between}
-use Rattle.ground.proofs.ChoiceLaws.{bool_cases, less_cases, between_bounds, bounds_between, under_between, over-between}
+use Rattle.ground.specs.Choice.{pick, position, between}
+use Rattle.ground.proofs.ChoiceLaws.{any_below, tested, bool_cases, less_cases, between_bounds, bounds_between, under_between, over-between}
 use Rattle.generic_cube.specs.Code.{move, code_of, is_wide, outside}
 use Rattle.generic_cube.proofs.CodeLaws.{Good, good_move}
 use Rattle.tokens.specs.declared.Mark.{Mark}
 use Rattle.tokens.specs.declared.Fault.{Fault}
 use Rattle.tokens.specs.Token.{digit_of, is_digit, digits_of, token_width, letter_of, letter_at, is_wide_token, plain_kind, mark_of, suffix_at, suffix_of, token_end, token_move, bad_digits, no_letter, no_w, bytes_left, bad_token_width, fault, FaultRow, token_faults, unless_fault, read_behind, read_token}
-use Rattle.tokens.specs.Inner.{Lettered}
+use Rattle.tokens.specs.Inner.{LetterPlace, Lettered}
 
 -- ---- a suffix has a turn, a letter a kind, and a digit a value
 
@@ -25,6 +26,27 @@ unfolding mark_of
 mark_turn b =
     bool_cases (eqb b 50) (λ t. rw t (omega arith, omega arith))
     (λ t. bool_cases (eqb b 39) (λ s. rw (t, s) (omega arith, omega arith)) (λ s. rw (t, s) (omega arith, omega arith)))
+
+-- the way to a face's place by the code: the places are packed by their letters, from B on, three bits each, 7 for none
+unfoldable pub face_places : ℕ
+face_places = 142989281726541692
+
+abbrev pub packed_at : ℕ → ℕ
+packed_at b = face_places / 2 ^ (3 * (b - 66)) % 8
+
+packed_lem : (b : ℕ) → between 66 85 b ≡ true → pick (ltb (packed_at b) 7) (packed_at b) 9 ≡ letter_of b
+unfolding face_places letter_of position any_below between
+packed_lem b h =
+    let below = between_bounds 66 85 b h in
+    let t = eqb-true _ _ (tested (λ x. eqb (pick (between 66 85 x) (pick (ltb (packed_at x) 7) (packed_at x) 9) (letter_of x)) (letter_of x)) 86 refl b (omega (arith, below.1))) in
+    rw h at t
+
+pub letter_packed : (b : ℕ) → 66 ≤ b → b ≤ 85 → LetterPlace b (then_some (ltb (packed_at b) 7) (packed_at b))
+letter_packed b l h =
+    let e = packed_lem b (bounds_between 66 85 b l h) in
+    bool_cases (ltb (packed_at b) 7)
+    (λ t. let k = ltb-true (packed_at b) 7 t in rw t (rw t at e, omega arith))
+    (λ t. rw t (sym (rw t at e)))
 
 -- a digit is 48 and its value
 pub digit_back : (b : ℕ) → (digit_of b ≡ 10 → ⊥) → (b ≡ 48 + digit_of b) × (digit_of b < 10)

@@ -40,8 +40,8 @@ group-returns-then-not-is_parting m c =
     let t = a.source in
     let first : Part_read t.n t.text.now a.left (a.s + 1) t.cap a.out.now a.j c.sequence.new.out c.in_ok-first.first.end c.in_ok-first.first.next =
     part_read t.n t.text.now a.left (a.s + 1) t.cap a.out.now a.j _ _ (omega (arith, c.requires.1)) c.in_ok-first.ensures in
-    group_no_sign t.n t.text.now a.left a.s t.cap a.out.now a.j c.requires.1 first c.if-source-s-eq40.false
-    (parting_is c.at-sign.ensures c.is_parting.ensures c.if-not-is_parting.true) c.new.ensures
+    rw c.refuse.ensures (group_no_sign t.n t.text.now a.left a.s t.cap a.out.now a.j c.requires.1 first c.if-source-s-eq40.false
+    (parting_is c.at-sign.ensures c.is_parting.ensures c.if-not-is_parting.true))
 
 pub group-sequence-requires-2 : goal.group-sequence-requires-2
 group-sequence-requires-2 m c =
@@ -99,8 +99,8 @@ group-returns m c =
 pub sequence-returns-then-left-eq0 : goal.sequence-returns-then-left-eq0
 sequence-returns-then-left-eq0 m c =
     let a = c.args in
-    go_wrong c.loop-word.invariant
-    (word_deep a.source.n a.source.text.now a.left c.in-Some.ensures (sym c.is_opening.ensures ∙ c.if-is_opening.true) c.if-left-eq0.true) c.new.ensures
+    rw c.refuse.ensures (go_wrong c.loop-word.invariant
+    (word_deep a.source.n a.source.text.now a.left c.in-Some.ensures (sym c.is_opening.ensures ∙ c.if-is_opening.true) c.if-left-eq0.true))
 
 pub sequence-returns-in_err-read : goal.sequence-returns-in_err-read
 sequence-returns-in_err-read m c =

@@ -16,7 +16,7 @@ returns-in_err-read c =
 pub returns-then-read-text : goal.returns-then-read-text
 returns-then-read-text c =
     let a = c.args in
-    rw (c.into-then-read-text.ensures, c.new.ensures)
+    rw c.into-then-read-text.ensures
     (answer_sign a.n a.text.now a.out.now (sym c.is_size.ensures ∙ c.if-not-is_size.false) _ c.in_ok-read.ensures c.if-read-text.true)
 
 pub returns-then-out-read : goal.returns-then-out-read

@@ -5,7 +5,7 @@ use Rattle.algorithm_parser.proofs.TellingLaws.{round_bad, round_once, round_mor
 use Rattle.algorithm_parser.proofs.round.Goals as goal
 
 pub returns-then-at-ne41 : goal.returns-then-at-ne41
-returns-then-at-ne41 c = λ start a l. round_bad _ _ l (λ w. c.if-at-ne41.true (c.at.ensures ∙ w)) c.new.ensures
+returns-then-at-ne41 c = λ start a l. rw c.refuse.ensures (round_bad _ _ l (λ w. c.if-at-ne41.true (c.at.ensures ∙ w)))
 
 pub returns-in_default : goal.returns-in_default
 returns-in_default c = λ start a l. round_once _ _ l (sym c.at.ensures ∙ c.if-at-ne41.false) (rw c.at-2.ensures at c.in_default.ensures)

@@ -1,11 +1,10 @@
-use mathlib.Core.Path.{refl, ap, ◌∙◌}
-use Rattle.std.specs.Prelude.{Err}
+use mathlib.Core.Path.{refl, ◌∙◌}
 use native.Mathlib.Omega.{arith}
 use Rattle.tokens.proofs.TokenLaws.{out_left, out_plain, suffix_plain, lettered_few, plain_kind_lem}
 use Rattle.tokens.proofs.plain.Goals as goal
 
 pub returns-then-t-end : goal.returns-then-t-end
-returns-then-t-end c = ap Err c.new.ensures ∙ out_left _ _ 0 c.requires.0 (λ w. refl) (suffix_plain _ 0 c.requires.1) c.suffix-mark.ensures.0 c.if-t-end.true
+returns-then-t-end c = c.refuse.ensures ∙ out_left _ _ 0 c.requires.0 (λ w. refl) (suffix_plain _ 0 c.requires.1) c.suffix-mark.ensures.0 c.if-t-end.true
 
 pub plain_kind-kind-requires : goal.plain_kind-kind-requires
 plain_kind-kind-requires c = omega (arith, (lettered_few _ _ c.requires.0).1)

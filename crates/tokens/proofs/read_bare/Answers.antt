@@ -1,5 +1,4 @@
-use mathlib.Core.Path.{ap, sym, ◌∙◌}
-use Rattle.std.specs.Prelude.{Err}
+use mathlib.Core.Path.{sym, ◌∙◌}
 use Rattle.tokens.specs.Inner.{Lettered}
 use Rattle.tokens.proofs.TokenLaws.{out_letter, bare_digits, bare_letter, bare_none}
 use Rattle.tokens.proofs.read_bare.Goals as goal
@@ -15,7 +14,7 @@ lettered c =
     }
 
 pub returns-in_default : goal.returns-in_default
-returns-in_default c = ap Err c.new.ensures ∙ out_letter _ _ 0 (bare_digits _ c.requires.1) (bare_none _ (c.in_default.ensures))
+returns-in_default c = c.refuse.ensures ∙ out_letter _ _ 0 (bare_digits _ c.requires.1) (bare_none _ (c.in_default.ensures))
 
 pub wide-requires : goal.wide-requires
 wide-requires c =

@@ -1,6 +1,5 @@
-use mathlib.Core.Path.{ap, sym, ◌∙◌}
+use mathlib.Core.Path.{sym, ◌∙◌}
 use native.Mathlib.Omega.{arith}
-use Rattle.std.specs.Prelude.{Err}
 use Rattle.tokens.specs.Inner.{Lettered}
 use Rattle.tokens.proofs.TokenLaws.{out_digits, out_no_letter, out_w, face_letter}
 use Rattle.tokens.proofs.read_numbered.Goals as goal
@@ -16,11 +15,11 @@ lettered c =
     }
 
 pub returns-then-has_bad_digits : goal.returns-then-has_bad_digits
-returns-then-has_bad_digits c = ap Err c.new.ensures ∙ out_digits _ _ _ (sym c.has_bad_digits.ensures ∙ c.if-has_bad_digits.true)
+returns-then-has_bad_digits c = c.refuse.ensures ∙ out_digits _ _ _ (sym c.has_bad_digits.ensures ∙ c.if-has_bad_digits.true)
 
 pub returns-in_default : goal.returns-in_default
 returns-in_default c =
-    ap Err c.new-in_default.ensures ∙ out_no_letter _ _ _ (sym c.has_bad_digits.ensures ∙ c.if-has_bad_digits.false) c.requires.1 c.in_default.ensures
+    c.refuse-in_default.ensures ∙ out_no_letter _ _ _ (sym c.has_bad_digits.ensures ∙ c.if-has_bad_digits.false) c.requires.1 c.in_default.ensures
 
 pub wide-requires : goal.wide-requires
 wide-requires c =
@@ -28,4 +27,4 @@ wide-requires c =
 
 pub returns : goal.returns
 returns c =
-    ap Err c.new-2.ensures ∙ out_w _ _ _ (lettered (goal.at.returns c).In-Some) (sym c.is_wide_token.ensures ∙ c.if-is_wide_token.false) (λ z. omega (arith, c.requires.1))
+    c.refuse-2.ensures ∙ out_w _ _ _ (lettered (goal.at.returns c).In-Some) (sym c.is_wide_token.ensures ∙ c.if-is_wide_token.false) (λ z. omega (arith, c.requires.1))

@@ -1,5 +1,4 @@
-use mathlib.Core.Path.{◌≡◌, sym, ap, ◌∙◌}
-use Rattle.std.specs.Prelude.{Err}
+use mathlib.Core.Path.{◌≡◌, sym, ◌∙◌}
 use mathlib.Core.Bool.{false, true≢false}
 use native.Mathlib.Omega.{arith}
 use Rattle.generic_cube.proofs.CodeLaws.{sized_bounds, inside}
@@ -27,11 +26,11 @@ overflow_sub-n c = (sized_bounds _ c.requires.0).0
 
 pub returns-then-t-wide_end : goal.returns-then-t-wide_end
 returns-then-t-wide_end c =
-    ap Err c.new.ensures ∙ out_left _ _ _ c.requires.1 (wide (goal.at.returns-then-t-wide_end c).After-is_outside-unfit) (suffix_wide _ _ c.requires.2) c.suffix-mark.ensures.0 c.if-t-wide_end.true
+    c.refuse.ensures ∙ out_left _ _ _ c.requires.1 (wide (goal.at.returns-then-t-wide_end c).After-is_outside-unfit) (suffix_wide _ _ c.requires.2) c.suffix-mark.ensures.0 c.if-t-wide_end.true
 
 pub returns-then-unfit : goal.returns-then-unfit
 returns-then-unfit c =
-    ap Err c.new-then-unfit.ensures ∙ out_width _ _ _ c.requires.1 (wide (goal.at.returns-then-unfit c).After-is_outside-unfit) (suffix_wide _ _ c.requires.2) c.suffix-mark.ensures.0 (omega arith) c.requires.2 c.width-width.ensures (sym c.is_outside-unfit.ensures ∙ c.if-unfit.true)
+    c.refuse-then-unfit.ensures ∙ out_width _ _ _ c.requires.1 (wide (goal.at.returns-then-unfit c).After-is_outside-unfit) (suffix_wide _ _ c.requires.2) c.suffix-mark.ensures.0 (omega arith) c.requires.2 c.width-width.ensures (sym c.is_outside-unfit.ensures ∙ c.if-unfit.true)
 
 pub overflow_add-kind : goal.overflow_add-kind
 overflow_add-kind c = omega (arith, (lettered_few _ _ c.requires.1).1)
