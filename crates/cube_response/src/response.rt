@@ -12,7 +12,6 @@ ghost use Rattle.cube_response.specs.Inner.{SizeAndRoom};
 use crate::{lines, text};
 use ground::codes::MoveCode;
 use scramble_parser::ParseError;
-use tokens::Fault;
 
 // A work area for the largest cube, and a slot for each byte of a line: a line holds fewer moves than that.
 const WORK_AREA: [u8; 2400] = [0; 2400];
