@@ -1,4 +1,4 @@
-// Text put into the output, at a place.
+// Text put into the output, at a place. `respond` can't fail, so it writes into what it is lent, and no text is grown.
 ghost use Rattle.std.specs.Prelude.{◌++◌, ◌+◌, ◌≤◌, length};
 ghost use Rattle.ground.specs.Inner.{Put};
 ghost use Rattle.ground.specs.Refusals.{number_of};

@@ -25,7 +25,7 @@ pub trait Facelet: Copy {
     // What the solved cube of a size shows at a place.
     ghost shown: { ℕ → ℕ → ℕ };
 
-    // What a cleared work area is filled with.
+    // What a cleared work area is filled with: each type's own 0, so that the two bodies are alike.
     fn blank() -> Self
         ensures { number result ≡ 0 };
 

@@ -31,7 +31,7 @@ static RINGS: [[(usize, usize); 4]; 18] = [
 ];
 
 // Places in lines. From a line to the next the place goes up by `over` and down by `under`, along a line up by `along` and down by `behind`.
-#[derive(Clone, Copy)]
+#[derive(Clone, Copy, Debug, PartialEq, Eq)]
 pub struct Lane {
     pub start: usize,
     pub over: usize,
@@ -41,7 +41,7 @@ pub struct Lane {
 }
 
 // The four lanes of a ring, each a quarter turn from the one before.
-#[derive(Clone, Copy)]
+#[derive(Clone, Copy, Debug, PartialEq, Eq)]
 pub struct Ring {
     pub a: Lane,
     pub b: Lane,

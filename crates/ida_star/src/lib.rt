@@ -92,6 +92,7 @@ impl<'a> Search<'a> {
         requires limit_in_bounds { limit ≤ length out.old }
         ensures { PassesTold (reply (record { n = self.entry.n; cube = cube.now; table = self.entry.table.now; depth = self.entry.depth; candidates = self.entry.moves.now; limit = limit })) out.old out.new result }
     {
+        // A path of its own, as memory is fixed: the output is left as it was where no list is found.
         let mut path: [MoveCode; 20] = [0; 20];
         for left in 0..limit + 1 {
             if let Some(count) = self.pass(cube, left, work, &mut path[..limit]) {

@@ -15,7 +15,7 @@ const LINE_ROOM: u64 = 16384;
 const LINES: usize = 100_000;
 
 // How many records the library gave what they say, how many it gave something else, and how many lines are no record.
-#[derive(Clone, Copy)]
+#[derive(Clone, Copy, Debug, PartialEq, Eq)]
 struct Tally {
     same: u64,
     differ: u64,
