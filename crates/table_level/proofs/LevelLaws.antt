@@ -1,17 +1,15 @@
 -- Laws of entries that are added to the end of others, and of what a stretch of a level comes to.
 use Prim.Native.Nat.{ℕ, suc, ◌+◌, ◌-◌, ◌*◌, ◌/◌, ◌≤◌, ◌<◌}
 use mathlib.Core.Path.{◌≡◌, refl, sym, ap, ap₂, subst, ◌∙◌}
-use mathlib.Core.Bool.{true, false, true≢false}
+use mathlib.Core.Bool.{false}
 use mathlib.Core.Logic.{⊎_elim}
 use mathlib.Core.List.{List, [], ◌∷◌, ◌++◌, append_assoc}
-use native.Mathlib.Nat.{eq-or-lt_of_le, mul-le-mul_right, suc-mul, le-div_iff_mul-le, div-le_self}
+use native.Mathlib.Nat.{eq-or-lt_of_le, mul-le-mul_right, suc-mul}
 use native.Mathlib.Numerals.{add-one}
 use native.Mathlib.Omega.{arith}
-use lib.Dec.{eqb}
-use lib.ListN.{length, take, drop, get_or, set, replicate, length-append, length-drop, length-replicate}
+use lib.ListN.{length, take, drop, get_or, set, length-append}
 use lib.Seq.{length-take-le, drop-cons, drop-drop, take_at, get_or_at, set_at}
-use borrow.Author.Tests.{eqb-true, eqb-false}
-use Rattle.ground.proofs.ChoiceLaws.{bool_cases, less_cases}
+use Rattle.ground.proofs.ChoiceLaws.{less_cases}
 use Rattle.ground.proofs.ListLaws.{member_place}
 use Rattle.generic_cube.specs.Sizes.{stickers}
 use Rattle.table.specs.Entries.{entry_key, entry_number, Present}
@@ -20,15 +18,14 @@ use Rattle.table.specs.Table.{entry_count}
 use Rattle.table.proofs.TableLaws.{fits}
 use Rattle.table.proofs.EntriesLaws.{entry_key_lem, entry_number_lem, written_long, written_here, written_past, written_elsewhere}
 use Rattle.key_index.specs.declared.Classes.{Classes}
-use Rattle.key_index.specs.InnerIndex.{run_length, classes, class_of, Indexed, Empty}
-use Rattle.key_index.specs.Inner.{Filing}
+use Rattle.key_index.specs.InnerIndex.{classes, class_of, Indexed}
 use Rattle.key_index.proofs.IndexLaws.{class_most}
 use Rattle.search_theory.specs.CubeSearch.{moved_by}
 use Rattle.std.specs.Prelude.{Some, None, Result, Ok, Err}
 use Rattle.table_level.specs.declared.Halt.{Halt}
 use Rattle.table_level.specs.declared.Halt.TheVariants.{Crowded, Full}
 use Rattle.table_level.specs.declared.Stage.{Stage}
-use Rattle.table_level.specs.Inner.{entry_of, Stayed, Widened, Outgrown, Tracking, Passing, Going, Stretched, went, crowded, full, Candidate, Entered, LeadsTo, Fanned, start_at, Due, SourcesThere, SourceVisited, Swept, Sourced, Source, SweepTold, Levelled, outgrown_stage}
+use Rattle.table_level.specs.Inner.{entry_of, Stayed, Widened, Outgrown, Tracking, Going, Stretched, went, crowded, full, Candidate, Entered, LeadsTo, Fanned, start_at, Due, SourcesThere, SourceVisited, Swept, Sourced, Source, SweepTold, Levelled, outgrown_stage}
 
 -- what holds of the places from `from` up to i, and of i, holds up to i + 1
 pub up_to_lem : (P : ℕ → Type 0) (from i : ℕ) → ((j : ℕ) → from ≤ j → j < i → P j) → P i → (j : ℕ) → from ≤ j → j < i + 1 → P j

@@ -131,9 +131,7 @@ fn child(
     ensures { let n = job.entry.n in Stretched (stickers n) number (LeadsTo n job.entry.moves.now (entry_key (stickers n) table.old at)) table.old count classes (Entered (stickers n) classes (moved_by n code (entry_key (stickers n) table.old at))) table.new index.new result }
 {
     let m = 6 * job.n * job.n;
-    let Ok(turn) = generic_cube::read_code(code) else {
-        unreachable!();
-    };
+    let turn = generic_cube::read_code(code).unwrap();
     let entries = Entries {
         bytes: &table[..],
         m,
