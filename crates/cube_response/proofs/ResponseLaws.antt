@@ -13,7 +13,6 @@ use borrow.Author.Tests.{le-ltb}
 use Rattle.ground.proofs.ChoiceLaws.{bool_cases}
 use Rattle.ground.specs.Inner.{Put}
 use Rattle.ground.proofs.PutLaws.{put_then}
-use Rattle.generic_cube.specs.Inner.{Sized}
 use Rattle.std.specs.Prelude.{Result, Ok, Err}
 use Rattle.ground.specs.declared.refusals.Refusal.{Refusal}
 use Rattle.ground.specs.Refusals.{number_of, refusal}
@@ -70,9 +69,6 @@ put_parts {k = k} {p = p} h x1 x2 x3 x4 x5 =
 
 pub twenty : {n : ℕ} → n ≤ 20 → stickers n ≤ 2400
 twenty {n} h = mul-le-mul {n₁ = 6 * n} {m₁ = n} {n₂ = 120} {m₂ = 20} (omega arith) h
-
-pub size_cube : {n room : ℕ} → SizeAndRoom n room → Sized n
-size_cube a = record { some = a.some; size = omega (arith, a.most) }
 
 -- a solved cube, turned
 pub turned_solved : {n : ℕ} {moves cube cube1 cube2 work work2 : List ℕ} {r s : Result (Unit {0}) Refusal} → Runnable n (length cube) (length work) moves

@@ -11,7 +11,7 @@ use native.Mathlib.Nat.{eq-or-lt_of_le}
 use lib.Dec.{eqb, ltb, leb}
 use lib.ListN.{length, get_or, drop, drop_of_length-le}
 use lib.Seq.{drop-cons}
-use borrow.Author.Tests.{eq-eqb, ne_eqb, eqb-true, eqb-false, not-false, ltb-true, ltb-false, leb-true, le-leb, lt-leb}
+use borrow.Author.Tests.{eq-eqb, eqb-true, eqb-false, not-false, ltb-true, ltb-false, leb-true, le-leb, lt-leb}
 use Rattle.ground.specs.Choice.{pick, between, any, all, position}
 
 -- a test is true or false
@@ -49,18 +49,6 @@ over-between low high x a b = rw (le-leb low x a, lt-leb x high b)
 
 -- a walk that comes to place i: the test of what is left
 module _ (p : ℕ → Bool) (xs : List ℕ) (i : ℕ) where
-  pub any_here : i < length xs → p (get_or xs i 0) ≡ true → any p (drop i xs) ≡ true
-  unfolding any
-  any_here h t = rw (drop-cons xs i 0 h, t)
-
-  pub any_next : i < length xs → p (get_or xs i 0) ≡ false → any p (drop i xs) ≡ any p (drop (i + 1) xs)
-  unfolding any
-  any_next h t = rw (add-one i, drop-cons xs i 0 h, t)
-
-  pub any_end : length xs ≤ i → any p (drop i xs) ≡ false
-  unfolding any
-  any_end h = rw (drop_of_length-le xs h)
-
   pub all_here : i < length xs → p (get_or xs i 0) ≡ false → all p (drop i xs) ≡ false
   unfolding all
   all_here h t = rw (drop-cons xs i 0 h, t)
@@ -88,20 +76,6 @@ any_append p (x ∷ xs) ys e d =
     bool_cases (p x)
     (λ t. absurd (true≢false (rw t at e)))
     (λ t. rw t (any_append p xs ys (rw t at e) d))
-
--- the same for a place that is looked for
-module _ (b : ℕ) (xs : List ℕ) (i : ℕ) where
-  pub position_here : i < length xs → get_or xs i 0 ≡ b → position b (drop i xs) ≡ 0
-  unfolding position
-  position_here h e = rw (drop-cons xs i 0 h, eq-eqb _ _ e)
-
-  pub position-next : i < length xs → (get_or xs i 0 ≡ b → ⊥) → position b (drop i xs) ≡ suc (position b (drop (i + 1) xs))
-  unfolding position
-  position-next h e = rw (add-one i, drop-cons xs i 0 h, ne_eqb _ _ e)
-
-  pub position_end : length xs ≤ i → position b (drop i xs) ≡ 0
-  unfolding position
-  position_end h = rw (drop_of_length-le xs h)
 
 pub position_most : (b : ℕ) (xs : List ℕ) → position b xs ≤ length xs
 unfolding position

@@ -5,8 +5,8 @@ use mathlib.Core.Logic.{⊎_elim}
 use mathlib.Core.List.{List}
 use native.Mathlib.Omega.{arith}
 use native.Mathlib.Nat.{eq-or-lt_of_le}
-use lib.ListN.{length, get_or, set, length-set, replicate, length-replicate, get_or-replicate}
-use lib.Seq.{get_or-set_same, get_or-set_other, ext_get_or, set-get_or}
+use lib.ListN.{length, get_or, set, length-set}
+use lib.Seq.{get_or-set_same, get_or-set_other}
 use Rattle.ground.specs.Lists.{tabulate}
 use Rattle.ground.proofs.ListLaws.{tabulated}
 
@@ -47,33 +47,15 @@ module _ {f : ℕ → ℕ} {l₀ : List ℕ} where
   pub fill_all : {l : List ℕ} {j : ℕ} → Filling f l₀ l j → length l ≤ j → l ≡ tabulate (length l₀) f
   fill_all {l} {j} g h = tabulated f l (length l₀) g.long (λ i k. let e = g.long in g.done i (omega arith))
 
--- filled from another list of that length, it is that list; filled with zeros, it is zeros
-pub copied : {s l₀ l : List ℕ} {j : ℕ} → Filling (λ k. get_or s k 0) l₀ l j → length l ≤ j → length l₀ ≡ length s → l ≡ s
-copied {s} {l₀} {l} {j} g h e =
-    ext_get_or 0 l s (g.long ∙ e) (λ i k. g.done i (omega arith))
-
-pub cleared : {l₀ l : List ℕ} {j : ℕ} → Filling (λ k. 0) l₀ l j → length l ≤ j → l ≡ replicate (length l₀) 0
-cleared {l₀} {l} {j} g h =
-    ext_get_or 0 l (replicate (length l₀) 0) (g.long ∙ sym (length-replicate (length l₀) 0))
-    (λ i k. let e = g.long in g.done i (omega arith) ∙ sym (get_or-replicate (length l₀) i 0 0 (omega arith)))
-
 -- `l`, once `l₀`, has its first j places done, and the others as they were
 pub record Changing (f : ℕ → ℕ) (l₀ l : List ℕ) (j : ℕ) : Type 0 where
   pub filling : Filling f l₀ l j
   pub rest : (k : ℕ) → j ≤ k → get_or l k 0 ≡ get_or l₀ k 0
 
 module _ {f : ℕ → ℕ} {l₀ : List ℕ} where
-  pub change_none : Changing f l₀ l₀ 0
-  change_none = record { filling = fill_none; rest = λ k h. refl }
-
   pub change_set : {l : List ℕ} {j v : ℕ} → Changing f l₀ l j → j < length l → v ≡ f j → Changing f l₀ (set l j v) (j + 1)
   change_set {l} {j} {v} c h e =
       record {
         filling = fill_more c.filling h e;
         rest = λ k hk. get_or-set_other l j k v 0 (omega arith) ∙ c.rest k (omega arith);
       }
-
-  -- an element that stays is one that is written back
-  pub change_keep : {l : List ℕ} {j : ℕ} → Changing f l₀ l j → j < length l → get_or l₀ j 0 ≡ f j → Changing f l₀ l (j + 1)
-  change_keep {l} {j} c h e =
-      subst (λ (x : List ℕ). Changing f l₀ x (j + 1)) (set-get_or l j 0) (change_set c h (c.rest j (omega arith) ∙ e))

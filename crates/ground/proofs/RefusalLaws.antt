@@ -29,7 +29,7 @@ use Rattle.ground.specs.declared.refusals.Refusal.TheVariants.{
   Sign,
   Level,
 }
-use Rattle.ground.specs.Refusals.{Row, lowest, number_of, refusal, listed}
+use Rattle.ground.specs.Refusals.{Row, lowest, number_of, refusal}
 use Rattle.ground.proofs.ChoiceLaws.{bool_cases}
 
 -- no row applies
@@ -177,7 +177,10 @@ number_only k r e h =
     (λ e. at_row k 10 Index _ r e refl (λ e. at_row k 12 Letter _ r e refl (λ e. at_row k 13 Digits _ r e refl (λ e. at_row k 14 Ending _ r e refl
     (λ e. at_row k 16 Sign _ r e refl (λ e. absurd (h (sym e)))))))))))))))
 
--- rows whose numbers stand in the table: a computed test
+-- a number, and rows whose numbers stand in the table: computed tests
+abbrev pub listed : ℕ → Bool
+listed k = eqb (number_of (refusal k)) k
+
 abbrev pub listed_rows : List Row → Bool
 listed_rows [] = true
 listed_rows (r ∷ rows) = pick (listed r.number) (listed_rows rows) false

@@ -53,10 +53,6 @@ refusal k =
     (pick (eqb k 14) Ending
     (pick (eqb k 16) Sign Level))))))))))))
 
--- whether a number stands in the table
-abbrev pub listed : ℕ → Bool
-listed k = eqb (number_of (refusal k)) k
-
 -- a row: a number of the table of refusals, and whether it applies
 pub record Row : Type 0 where
   pub number : ℕ

@@ -102,10 +102,7 @@ module _ {t : Task} {s left len : ℕ} {path₀ work₀ : List ℕ} where
     pub try_end : length t.candidates ≤ i → VisitTold t s left len path₀ path work₀ work None
     try_end h = record { told = tell_none (g.rest ∙ first_end _ t.candidates i h); made = g.made; kept = g.front }
 
--- levels of s bytes: this one, the next, and those below it
-pub level_one : (left s w : ℕ) → (left + 1) * s ≤ w → s ≤ w
-level_one left s w h = omega (arith, suc-mul left s, ap (λ x. x * s) (add-one left))
-
+-- levels of s bytes: this one and the next, and those below it
 pub level_two : (left s w : ℕ) → 0 < left → (left + 1) * s ≤ w → s + s ≤ w
 level_two zero s w pos h = elim pos [ ]
 level_two (suc k) s w pos h = omega (arith, suc-mul (k + 1) s, suc-mul k s, ap (λ x. x * s) (add-one k))
@@ -135,9 +132,6 @@ module _ {t : Task} {s left len : ℕ} {path₀ path path₁ work₀ work work�
 
   pub below_long : length (take (length work₁ - s) (drop s work₁)) ≡ length work₁ - s
   below_long = length-take-le (length work₁ - s) (drop s work₁) (omega (arith, length-drop s work₁))
-
-  pub below_room : (left - 1 + 1) * s ≤ length (take (length work₁ - s) (drop s work₁))
-  below_room = omega (arith, below_long, turned_long, level_down left s (length work₀) pos room)
 
   pub pushed_long : length path₁ ≡ length path₀
   pushed_long = ap length pushed ∙ length-set path len (get_or t.candidates i 0) ∙ g.slots

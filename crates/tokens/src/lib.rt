@@ -28,7 +28,7 @@ pub fn refuse<T>(refusal: Refusal, place: usize) -> Result<T, Fault>
 }
 
 // A suffix: its turn, and how many bytes it takes.
-#[derive(Clone, Copy)]
+#[derive(Clone, Copy, Debug, PartialEq, Eq)]
 pub struct Mark {
     pub turn: usize,
     pub size: usize,
