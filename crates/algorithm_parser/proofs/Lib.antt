@@ -3,3 +3,4 @@ pub mod RoomLaws
 pub mod TellingLaws
 pub mod CycleLaws
 pub mod AnswerLaws
+pub mod NumberLaws

@@ -42,11 +42,11 @@ module _ {text : List ℕ} {i s e : ℕ} (f : Found group_signs text i s e) wher
 -- ---- one word on, with so many calls
 
 module _ (n : ℕ) (text : List ℕ) (calls left i : ℕ) where
-  calls_none : words_from group_signs text i ≡ [] → sequence_of n text (suc calls) left i ≡ means nothing (length text)
+  pub calls_none : words_from group_signs text i ≡ [] → sequence_of n text (suc calls) left i ≡ means nothing (length text)
   unfolding sequence_of
   calls_none h = rw h
 
-  calls_word : {s e : ℕ} → Found group_signs text i s e → sequence_of n text (suc calls) left i
+  pub calls_word : {s e : ℕ} → Found group_signs text i s e → sequence_of n text (suc calls) left i
       ≡ word_then (sort_of (get_or text s 0)) n left (word_of text s e) (λ s. group_of n text calls (left - 1) s) (λ e. sequence_of n text calls left e)
   unfolding sequence_of
   calls_word f = rw (f.one, word_byte f)

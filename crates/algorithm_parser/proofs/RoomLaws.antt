@@ -6,7 +6,7 @@ use native.Mathlib.Omega.{arith}
 use lib.ListN.{length, get_or, take, drop, set, length-append, length-drop, length-set}
 use lib.Seq.{sets, sets-eq, length-take-le, take-take, take_at, drop_at, take-set-le, get_or-take, get_or-drop}
 use Rattle.ground.proofs.PutLaws.{Looped, loop_none, loop_more, loop_all, put_one, each_self, sets-append, sets-front}
-use Rattle.ground.proofs.CopyLaws.{part_front}
+use Rattle.ground.proofs.ListLaws.{part_front}
 use Rattle.generic_cube.specs.Code.{move_of}
 use Rattle.move_lists.specs.Lists.{Turned, inverse_of, inverse}
 use Rattle.move_lists.proofs.ListLaws.{length-inverse, inverse-next}

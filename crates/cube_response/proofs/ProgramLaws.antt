@@ -5,11 +5,15 @@ use mathlib.Core.Bool.{true, false, not, ◌&&◌, true≢false}
 use mathlib.Core.List.{List, [], ◌∷◌, ◌++◌}
 use native.Mathlib.Omega.{arith}
 use native.Mathlib.Nat.{pow-suc, one-le-pow, pow-le-pow_right, zero-add, suc-add}
-use lib.Dec.{leb, eqb}
+use lib.Dec.{leb, ltb, eqb}
+use Rattle.std.specs.Prelude.{◌==◌, unwrap_or}
+use Rattle.std.specs.List.{position_or_len}
+use Rattle.std.proofs.lemmas.List.Sums.{prefix_len-le-length}
+use Rattle.cube_response.specs.Inner.{line_feed}
 use lib.ListN.{length, get_or, take, drop, length-drop, drop_of_length-le}
 use lib.Seq.{take_all, take-take, length-take-le}
-use borrow.Author.Tests.{eq-eqb, ne_eqb, lt-ltb, le-ltb, lt-leb, le-leb, leb-true, eqb-true, eqb-false, not-true, not-false}
-use Rattle.ground.proofs.ChoiceLaws.{any_below, bool_cases, between_bounds, position_here, position-next, position_end, position_most, tested, less_cases}
+use borrow.Author.Tests.{eq-eqb, ne_eqb, lt-ltb, le-ltb, lt-leb, le-leb, leb-true, ltb-false, eqb-true, eqb-false, not-true, not-false}
+use Rattle.ground.proofs.ChoiceLaws.{any_below, bool_cases, between_bounds, position_most, tested, less_cases}
 use Rattle.ground.specs.Choice.{position, between}
 use Rattle.generic_cube.specs.Code.{outside}
 use Rattle.tokens.specs.Token.{digit_of, is_digit, digits_of, number_of}
@@ -21,24 +25,16 @@ use Rattle.io.specs.Digits.{hex_digit_ascii, last_digits, IsDigitCount}
 
 -- ---- where a line ends
 
--- no byte before i is b
-pub record LineSearch (b : ℕ) (xs : List ℕ) (i : ℕ) : Type 0 where
-  pub most : i ≤ length xs
-  pub same : position b xs ≡ i + position b (drop i xs)
+-- the first line feed, or the input's end
+places : (xs : List ℕ) → position_or_len (λ b. b == 10) xs ≡ position 10 xs
+unfolding position
+places [] = refl
+places (x ∷ xs) = bool_cases (eqb x 10) (λ t. rw t) (λ t. rw (t, places xs) (omega arith))
 
-module _ {b : ℕ} {xs : List ℕ} where
-  pub seek_none : LineSearch b xs 0
-  seek_none = record { most = omega arith; same = sym (zero-add (position b xs)) }
-
-  module _ {i : ℕ} (s : LineSearch b xs i) where
-    pub seek_more : i < length xs → (get_or xs i 0 ≡ b → ⊥) → LineSearch b xs (i + 1)
-    seek_more h z = record { most = omega arith; same = omega (arith, s.same, position-next b xs i h z) }
-
-    pub seek_here : i < length xs → get_or xs i 0 ≡ b → i ≡ position b xs
-    seek_here h e = omega (arith, s.same, position_here b xs i h e)
-
-    pub seek_end : length xs ≤ i → i ≡ position b xs
-    seek_end h = omega (arith, s.same, position_end b xs i h)
+pub line_feed_or_end : (xs : List ℕ) → unwrap_or (line_feed xs) (length xs) ≡ position 10 xs
+line_feed_or_end xs =
+    bool_cases (ltb (position_or_len (λ b. b == 10) xs) (length xs)) (λ t. rw t (places xs))
+    (λ t. rw t (omega (arith, ltb-false _ _ t, prefix_len-le-length (λ b. not (b == 10)) xs, places xs)))
 
 pub line_within : (input : List ℕ) {end : ℕ} → end ≡ position 10 input → end ≤ length input
 line_within input e = omega (arith, position_most 10 input)

@@ -14,16 +14,20 @@ use Rattle.ground.proofs.ChoiceLaws.{bool_cases}
 use Rattle.ground.specs.Inner.{Put}
 use Rattle.ground.proofs.PutLaws.{put_then}
 use Rattle.generic_cube.specs.Inner.{Sized}
-use Rattle.generic_cube.specs.declared.Done.{Done}
+use Rattle.std.specs.Prelude.{Result, Ok, Err}
+use Rattle.ground.specs.declared.refusals.Refusal.{Refusal}
+use Rattle.ground.specs.Refusals.{number_of, refusal}
 use Rattle.generic_cube.specs.Sizes.{sized, stickers}
 use Rattle.generic_cube.specs.Answers.{DoneWith}
 use Rattle.generic_cube.specs.Code.{list_refusal}
 use Rattle.generic_cube.proofs.CodeLaws.{bounds_sized}
 use Rattle.tokens.specs.Words.{tokens_of}
-use Rattle.scramble_parser.specs.declared.Parsed.{Parsed}
-use Rattle.scramble_parser.specs.declared.Parsed.TheVariants.{Moves, Refused, RefusedAt}
+use Rattle.tokens.specs.declared.Fault.{Fault}
+use Rattle.scramble_parser.specs.declared.ParseError.{ParseError}
+use Rattle.scramble_parser.specs.declared.ParseError.TheVariants.{Refused, At}
+use Rattle.tokens.specs.Token.{fault}
 use Rattle.scramble_parser.specs.Parse.{Reading, codes, bad, reading, answer_of, filled_by, read_answer, read_out, ParseResult}
-use Rattle.scramble_parser.proofs.ParseLaws.{reading_taken, reading_few}
+use Rattle.scramble_parser.proofs.ParseLaws.{reading_taken, reading_few, reading_listed}
 use Rattle.geometric_moves.specs.Turn.{run}
 use Rattle.facelet_cube.specs.Apply.{ApplyMovesResult}
 use Rattle.facelet_cube.specs.Inner.{Runnable}
@@ -71,7 +75,7 @@ pub size_cube : {n room : ℕ} → SizeAndRoom n room → Sized n
 size_cube a = record { some = a.some; size = omega (arith, a.most) }
 
 -- a solved cube, turned
-pub turned_solved : {n : ℕ} {moves cube cube1 cube2 work work2 : List ℕ} {r s : Done} → Runnable n (length cube) (length work) moves
+pub turned_solved : {n : ℕ} {moves cube cube1 cube2 work work2 : List ℕ} {r s : Result (Unit {0}) Refusal} → Runnable n (length cube) (length work) moves
     → DoneWith (cube_refusal n (length cube)) (solved_cube n) cube cube1 r → length cube1 ≡ length cube
     → ApplyMovesResult n cube1 work moves cube2 work2 s → cube2 ≡ run n moves (solved_cube n)
 turned_solved {n} {moves} {cube} {cube1} {cube2} {work} g d l a =
@@ -113,47 +117,50 @@ size_taken {n} a = bounds_sized n a.some (omega (arith, a.most))
 
 -- what a parser with room enough answers
 module _ (n : ℕ) (two old new : List ℕ) (s : sized n ≡ true) (h : length two ≤ length old) where
-  parsed_is : {r : Parsed} → ParseResult n two old new r → r ≡ answer_of (length old) (reading n (tokens_of two))
+  parsed_is : {r : Result ℕ ParseError} → ParseResult n two old new r → r ≡ answer_of (length old) (reading n (tokens_of two))
   unfolding read_answer
   parsed_is p = p.answered ∙ rw s
 
-  filled_is : {r : Parsed} → ParseResult n two old new r → new ≡ filled_by old (reading n (tokens_of two))
+  filled_is : {r : Result ℕ ParseError} → ParseResult n two old new r → new ≡ filled_by old (reading n (tokens_of two))
   unfolding read_out
   filled_is p = p.written ∙ rw s
 
-  moves_of_lem : (r : Reading) (count : ℕ) → reading n (tokens_of two) ≡ r → Moves count ≡ answer_of (length old) r → new ≡ filled_by old r → Read n two new count
+  moves_of_lem : (r : Reading) (count : ℕ) → reading n (tokens_of two) ≡ r → Ok count ≡ answer_of (length old) r → new ≡ filled_by old r → Read n two new count
   moves_of_lem (bad k at) count q e f = let z : ◌≡◌ {A = ℕ} 0 1 = cc in absurd (omega arith)
   moves_of_lem (codes cs) count q e f =
       let l = reading_few n two cs q in
       let v : ltb (length old) (length cs) ≡ false = le-ltb (length old) (length cs) (omega arith) in
-      let d : Moves count ≡ Moves (length cs) = rw v at e in
+      let d : ◌≡◌ {A = Result ℕ ParseError} (Ok count) (Ok (length cs)) = rw v at e in
       let m : length cs ≡ count = cc in
       let g : new ≡ cs ++ drop (length cs) old = rw v at f in
       let w : length new ≡ length cs + (length old - length cs) = ap length g ∙ length-append cs (drop (length cs) old) ∙ ap (λ (x : ℕ). length cs + x) (length-drop (length cs) old) in
       let t : take count new ≡ cs = ap (take count) g ∙ take_at cs (drop (length cs) old) count m in
       record { fits = omega arith; is = q ∙ ap codes (sym t); taken = ap (list_refusal n) t ∙ reading_taken n (tokens_of two) cs q }
 
-  bad_reading : (r : Reading) (k at : ℕ) → RefusedAt k at ≡ answer_of (length old) r → r ≡ bad k at
-  bad_reading (codes cs) k at e =
+  bad_reading : (r : Reading) (f : Fault) → reading n (tokens_of two) ≡ r → Err (At f) ≡ answer_of (length old) r → r ≡ bad (number_of f.refusal) f.place
+  bad_reading (codes cs) f q e =
       bool_cases (ltb (length old) (length cs))
-      (λ v. let d : RefusedAt k at ≡ Refused 6 = rw v at e in let z : ◌≡◌ {A = ℕ} 0 1 = cc in absurd (omega arith))
-      (λ v. let d : RefusedAt k at ≡ Moves (length cs) = rw v at e in let z : ◌≡◌ {A = ℕ} 0 1 = cc in absurd (omega arith))
-  bad_reading (bad k' at') k at e = cc
+      (λ v. let d : ◌≡◌ {A = Result ℕ ParseError} (Err (At f)) (Err (Refused (refusal 6))) = rw v at e in let z : ◌≡◌ {A = ℕ} 0 1 = cc in absurd (omega arith))
+      (λ v. let d : ◌≡◌ {A = Result ℕ ParseError} (Err (At f)) (Ok (length cs)) = rw v at e in let z : ◌≡◌ {A = ℕ} 0 1 = cc in absurd (omega arith))
+  bad_reading (bad k at) f q e =
+      let d : f ≡ fault k at = cc in
+      ap (λ x. bad x at) (sym (reading_listed n (tokens_of two) k at q)) ∙ sym (ap (λ (x : Fault). bad (number_of x.refusal) x.place) d)
 
-  none_of : (r : Reading) (k : ℕ) → reading n (tokens_of two) ≡ r → Refused k ≡ answer_of (length old) r → ⊥
+  none_of : (r : Reading) (k : Refusal) → reading n (tokens_of two) ≡ r → Err (Refused k) ≡ answer_of (length old) r → ⊥
   none_of (bad k' at) k q e = let z : ◌≡◌ {A = ℕ} 0 1 = cc in omega arith
   none_of (codes cs) k q e =
       let l = reading_few n two cs q in
       let v : ltb (length old) (length cs) ≡ false = le-ltb (length old) (length cs) (omega arith) in
-      let d : Refused k ≡ Moves (length cs) = rw v at e in
+      let d : ◌≡◌ {A = Result ℕ ParseError} (Err (Refused k)) (Ok (length cs)) = rw v at e in
       let z : ◌≡◌ {A = ℕ} 0 1 = cc in
       omega arith
 
-  pub parsed_moves : {r : Parsed} {count : ℕ} → r ≡ Moves count → ParseResult n two old new r → Read n two new count
+  pub parsed_moves : {r : Result ℕ ParseError} {count : ℕ} → r ≡ Ok count → ParseResult n two old new r → Read n two new count
   parsed_moves {r} {count} q p = moves_of_lem (reading n (tokens_of two)) count refl (sym q ∙ parsed_is p) (filled_is p)
 
-  pub parsed_bad : {r : Parsed} {k at : ℕ} → r ≡ RefusedAt k at → ParseResult n two old new r → reading n (tokens_of two) ≡ bad k at
-  parsed_bad {r} {k} {at} q p = bad_reading (reading n (tokens_of two)) k at (sym q ∙ parsed_is p)
+  pub parsed_bad : {r : Result ℕ ParseError} {f : Fault} → r ≡ Err (At f) → ParseResult n two old new r
+      → reading n (tokens_of two) ≡ bad (number_of f.refusal) f.place
+  parsed_bad {r} {f} q p = bad_reading (reading n (tokens_of two)) f refl (sym q ∙ parsed_is p)
 
-  pub parsed_never : {r : Parsed} {k : ℕ} → r ≡ Refused k → ParseResult n two old new r → ⊥
+  pub parsed_never : {r : Result ℕ ParseError} {k : Refusal} → r ≡ Err (Refused k) → ParseResult n two old new r → ⊥
   parsed_never {r} {k} q p = none_of (reading n (tokens_of two)) k refl (sym q ∙ parsed_is p)

@@ -1,5 +1,5 @@
 -- Inner contracts: numbers that are put into the output, and what a response to a scramble asks.
-use Rattle.std.specs.Prelude.{ℕ, ◌≤◌, List, length}
+use Rattle.std.specs.Prelude.{ℕ, ◌≤◌, ◌==◌, List, Option, length, position}
 use Rattle.ground.specs.Inner.{Put}
 use Rattle.cube_response.specs.Program.{decimal}
 
@@ -13,3 +13,7 @@ pub record SizeAndRoom (n room : ℕ) : Type 0 where
   pub some : 1 ≤ n
   pub most : n ≤ 20
   pub long : 2401 ≤ room
+
+-- where the first line feed stands, if there is one
+abbrev pub line_feed : List ℕ → Option ℕ
+line_feed input = position (λ b. b == 10) input

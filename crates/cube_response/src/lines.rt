@@ -1,20 +1,20 @@
 // The lines of the input, and the size on the first.
-ghost use Rattle.std.specs.Prelude.{◌≡◌};
+ghost use Rattle.std.specs.Prelude.{◌≡◌, ◌<◌, MatchOption};
 ghost use Rattle.ground.specs.Choice.{position};
+ghost use Rattle.cube_response.specs.Inner.{line_feed};
 ghost use Rattle.cube_response.specs.Program.{first_line, after_line, size_of};
 
-// A line ends at byte 10 or the end of input.
+fn line_feed(input: &[u8]) -> Option<usize>
+    ensures { result ≡ line_feed input.now }
+{
+    input.iter().position(|&b| b == b'\n')
+}
+
+// A line ends at its line feed or at the end of input.
 fn line_end(input: &[u8]) -> usize
     ensures { result ≡ position 10 input.now }
 {
-    let mut i: usize = 0;
-    while i < input.len() {
-        if input[i] == 10 {
-            return i;
-        }
-        i += 1;
-    }
-    i
+    line_feed(input).unwrap_or(input.len())
 }
 
 pub fn first(input: &[u8]) -> &[u8]
@@ -30,30 +30,31 @@ pub fn rest(input: &[u8]) -> &[u8]
 {
     let end = line_end(input);
     if end < input.len() {
-        let next = end + 1;
-        return &input[next..];
+        return &input[end + 1..];
     }
     &input[end..]
 }
 
-// The size that a line writes, 0 for any other line.
-#[tactic(auto, using(crate::proofs::ProgramLaws::size_past))]
-pub fn read_size(one: &[u8]) -> usize
-    ensures { result ≡ size_of one.now }
+// The size that a line writes, if it writes one.
+pub fn read_size(one: &[u8]) -> Option<usize>
+    ensures { MatchOption result (size_of one.now ≡ 0) (λ n. (0 < n) × (n ≡ size_of one.now)) }
 {
     let k = tokens::digits(one);
     if k != one.len() {
-        return 0;
+        return None;
     }
     if generic_cube::is_outside(1, 2, k) {
-        return 0;
+        return None;
     }
-    if one[0] == 48 {
-        return 0;
+    if one[0] == b'0' {
+        return None;
     }
     let n = tokens::number(one, k);
-    if 20 < n {
-        return 0;
+    if n == 0 {
+        return None;
     }
-    n
+    if 20 < n {
+        return None;
+    }
+    Some(n)
 }

@@ -11,28 +11,20 @@ ghost use Rattle.cube_response.specs.Inner.{SizeAndRoom};
 
 use crate::{lines, text};
 use ground::codes::MoveCode;
-use scramble_parser::Parsed;
+use scramble_parser::ParseError;
 
 // A work area for the largest cube, and a slot for each byte of a line: a line holds fewer moves than that.
-fn work_area() -> [u8; 2400]
-    ensures { 2400 ≡ length result }
-{
-    [0; 2400]
-}
+const WORK_AREA: [u8; 2400] = [0; 2400];
 
-fn slots() -> [MoveCode; 4096]
-    ensures { 4096 ≡ length result }
-{
-    [0; 4096]
-}
+const SLOTS: [MoveCode; 4096] = [0; 4096];
 
-// The solved cube after a list that is taken.
+// The solved cube after a list that is taken: neither call refuses.
 fn turn_solved(n: usize, moves: &[MoveCode], cube: &mut [u8], work: &mut [u8])
     requires { Runnable n (length cube.old) (length work.old) moves.now }
     ensures { cube.new ≡ run n moves.now (solved_cube n) }
 {
-    facelet_cube::cube::solved(n, cube);
-    facelet_letters::apply_moves(n, cube, work, moves);
+    let _ = facelet_cube::cube::solved(n, cube);
+    let _ = facelet_moves::apply_moves(n, cube, work, moves);
 }
 
 fn put_cube(n: usize, moves: &[MoveCode], out: &mut [u8]) -> usize
@@ -40,9 +32,9 @@ fn put_cube(n: usize, moves: &[MoveCode], out: &mut [u8]) -> usize
     ensures { Responds (run n moves.now (solved_cube n) ++ feed) out.old out.new result }
 {
     let count = 6 * n * n;
-    let mut work = work_area();
+    let mut work = WORK_AREA;
     turn_solved(n, moves, &mut out[..count], &mut work[..count]);
-    out[count] = 10;
+    out[count] = b'\n';
     count + 1
 }
 
@@ -51,12 +43,13 @@ fn respond_to_scramble(n: usize, two: &[u8], out: &mut [u8]) -> usize
     requires { SizeAndRoom n (length out.old) × (length two.now ≤ 4096) }
     ensures { Responds (scramble_answer n (reading n (tokens_of two.now))) out.old out.new result }
 {
-    let mut codes = slots();
-    let parsed = scramble_parser::parse_scramble(n, two, &mut codes);
-    match parsed {
-        Parsed::Moves(count) => put_cube(n, &codes[..count], out),
-        Parsed::RefusedAt(number, place) => text::put_refusal(number, place, out),
-        Parsed::Refused(_) => 0,
+    let mut codes = SLOTS;
+    match scramble_parser::parse_scramble(n, two, &mut codes) {
+        Ok(count) => put_cube(n, &codes[..count], out),
+        Err(error) => match error {
+            ParseError::At(fault) => text::put_refusal(fault, out),
+            ParseError::Refused(_) => unreachable!(),
+        },
     }
 }
 
@@ -70,10 +63,9 @@ fn respond_to_lines(one: &[u8], two: &[u8], out: &mut [u8]) -> usize
     if 4096 < two.len() {
         return text::put(out, 0, b"line too long\n");
     }
-    let n = lines::read_size(one);
-    if n == 0 {
+    let Some(n) = lines::read_size(one) else {
         return text::put(out, 0, b"refused 1\n");
-    }
+    };
     respond_to_scramble(n, two, out)
 }
 

@@ -1,8 +1,8 @@
 // The public entries: nothing but calls of the crates below, their answers packed into one number. cubesim_c exports them to C.
 #![tactic(auto)]
 
-ghost use Rattle.std.specs.Prelude.{◌≡◌, suc};
-ghost use Rattle.generic_cube.specs.Answers.{done_no, answer_no, answer_value, answer};
+ghost use Rattle.std.specs.Prelude.{◌≡◌};
+ghost use Rattle.generic_cube.specs.Answers.{answer_no, answer_value, answer};
 ghost use Rattle.generic_cube.specs.AllMoves.{AllMovesResult};
 ghost use Rattle.generic_cube.specs.StickerIndex.{sticker_refusal, sticker_index};
 ghost use Rattle.move_lists.specs.Lists.{SimplifyResult, InvertResult};
@@ -12,81 +12,13 @@ ghost use Rattle.algorithm_parser.specs.Groups.{AlgorithmResult};
 ghost use Rattle.facelet_cube.specs.Apply.{ApplyMovesResult};
 ghost use Rattle.facelet_cube.specs.Cube.{verdict, verdict_no, verdict_value, SolvedResult, SolvedIdsResult, MaskResult};
 ghost use Rattle.pruning_table.specs.PruningTable.{PruningTableResult};
-ghost use Rattle.ida_star.specs.IdaStar.{IdaStarResult, outcome_no, outcome_value};
-ghost use Rattle.cubesim.specs.Pack.{pack, version, Packed};
+ghost use Rattle.ida_star.specs.IdaStar.{IdaStarResult, outcome_value};
+ghost use Rattle.cubesim.specs.Pack.{version, Packed};
 
-use facelet_cube::cube::Verdict;
-use generic_cube::{Answer, Done};
+use crate::packing::Answer;
 use ground::codes::MoveCode;
-use ida_star::Outcome;
-use scramble_parser::Parsed;
 
-fn pack_of(number: u8, value: usize) -> u64
-    ensures { result ≡ pack number value }
-{
-    if value < 72057594037927936 {
-        return (number as u64) + 256 * (value as u64);
-    }
-    (number as u64) + 18446744073709551360
-}
-
-fn pack_done(a: Done) -> u64
-    ensures { result ≡ pack (done_no a) 0 }
-{
-    match a {
-        Done::Ok => pack_of(0, 0),
-        Done::Refused(k) => pack_of(k, 0),
-    }
-}
-
-fn pack_answer(a: Answer) -> u64
-    ensures { result ≡ pack (answer_no a) (answer_value a) }
-{
-    match a {
-        Answer::Value(x) => pack_of(0, x),
-        Answer::Refused(k) => pack_of(k, 0),
-    }
-}
-
-fn pack_verdict(a: Verdict) -> u64
-    ensures { result ≡ pack (verdict_no a) (verdict_value a) }
-{
-    match a {
-        Verdict::Solved => pack_of(0, 1),
-        Verdict::Unsolved => pack_of(0, 0),
-        Verdict::Refused(k) => pack_of(k, 0),
-    }
-}
-
-fn pack_parsed(a: Parsed) -> u64
-    ensures { result ≡ pack (parsed_no a) (parsed_value a) }
-{
-    match a {
-        Parsed::Moves(count) => pack_of(0, count),
-        Parsed::Refused(k) => pack_of(k, 0),
-        Parsed::RefusedAt(k, at) => pack_of(k, at),
-    }
-}
-
-// A found list's count goes out as one more, so that 0 says none.
-fn pack_outcome(a: Outcome) -> u64
-    ensures { result ≡ pack (outcome_no a) (outcome_value a) }
-{
-    match a {
-        Outcome::Found(k) => pack_found(k),
-        Outcome::Nothing => pack_of(0, 0),
-        Outcome::Refused(k) => pack_of(k, 0),
-    }
-}
-
-fn pack_found(k: usize) -> u64
-    ensures { result ≡ pack 0 (suc k) }
-{
-    if k < 72057594037927935 {
-        return pack_of(0, k + 1);
-    }
-    pack_of(0, 72057594037927936)
-}
+pub mod packing;
 
 // The library's version, a plain number and not a packed answer: it refuses nothing.
 pub fn cubesim_version() -> u64
@@ -97,44 +29,44 @@ pub fn cubesim_version() -> u64
 
 // The solved cube.
 pub fn cubesim_solved(n: usize, cube: &mut [u8]) -> u64
-    ensures { Packed done_no (λ a. 0) (SolvedResult n cube.old cube.new) result }
+    ensures { Packed answer_no (λ a. 0) (SolvedResult n cube.old cube.new) result }
 {
-    pack_done(facelet_cube::cube::solved(n, cube))
+    facelet_cube::cube::solved(n, cube).pack()
 }
 
 // The ids of the solved cube.
 pub fn cubesim_solved_ids(n: usize, ids: &mut [u16]) -> u64
-    ensures { Packed done_no (λ a. 0) (SolvedIdsResult n ids.old ids.new) result }
+    ensures { Packed answer_no (λ a. 0) (SolvedIdsResult n ids.old ids.new) result }
 {
-    pack_done(facelet_cube::cube::solved_ids(n, ids))
+    facelet_cube::cube::solved_ids(n, ids).pack()
 }
 
 // Whether a cube is solved.
 pub fn cubesim_is_solved(n: usize, cube: &[u8]) -> u64
     ensures { Packed verdict_no verdict_value (λ a. a ≡ verdict n cube.now) result }
 {
-    pack_verdict(facelet_cube::cube::is_solved(n, cube))
+    facelet_cube::cube::is_solved(n, cube).pack()
 }
 
 // The index of a sticker.
 pub fn cubesim_sticker_index(n: usize, face: u8, index: usize) -> u64
     ensures { Packed answer_no answer_value (λ a. a ≡ answer (sticker_refusal n face index) (sticker_index n face index)) result }
 {
-    pack_answer(generic_cube::stickers::sticker_index(n, face, index))
+    generic_cube::stickers::sticker_index(n, face, index).pack()
 }
 
 // The letters that a keep slice hides.
 pub fn cubesim_mask(n: usize, cube: &mut [u8], ids: &[u16], keep: &[u8]) -> u64
-    ensures { Packed done_no (λ a. 0) (MaskResult n cube.old ids.now keep.now cube.new) result }
+    ensures { Packed answer_no (λ a. 0) (MaskResult n cube.old ids.now keep.now cube.new) result }
 {
-    pack_done(facelet_cube::cube::mask(n, cube, ids, keep))
+    facelet_cube::cube::mask(n, cube, ids, keep).pack()
 }
 
 // A list of moves on a cube.
 pub fn cubesim_apply_moves(n: usize, cube: &mut [u8], work: &mut [u8], moves: &[MoveCode]) -> u64
-    ensures { Packed done_no (λ a. 0) (ApplyMovesResult n cube.old work.old moves.now cube.new work.new) result }
+    ensures { Packed answer_no (λ a. 0) (ApplyMovesResult n cube.old work.old moves.now cube.new work.new) result }
 {
-    pack_done(facelet_letters::apply_moves(n, cube, work, moves))
+    facelet_moves::apply_moves(n, cube, work, moves).pack()
 }
 
 // A list of moves on ids.
@@ -144,51 +76,51 @@ pub fn cubesim_apply_moves_to_ids(
     work: &mut [u16],
     moves: &[MoveCode],
 ) -> u64
-    ensures { Packed done_no (λ a. 0) (ApplyMovesResult n ids.old work.old moves.now ids.new work.new) result }
+    ensures { Packed answer_no (λ a. 0) (ApplyMovesResult n ids.old work.old moves.now ids.new work.new) result }
 {
-    pack_done(facelet_ids::apply_moves(n, ids, work, moves))
+    facelet_moves::apply_moves(n, ids, work, moves).pack()
 }
 
 // All moves of a size.
 pub fn cubesim_all_moves(n: usize, out: &mut [MoveCode]) -> u64
     ensures { Packed answer_no answer_value (AllMovesResult n out.old out.new) result }
 {
-    pack_answer(generic_cube::moves::all_moves(n, out))
+    generic_cube::moves::all_moves(n, out).pack()
 }
 
 // Reads a scramble.
 pub fn cubesim_parse_scramble(n: usize, text: &[u8], out: &mut [MoveCode]) -> u64
     ensures { Packed parsed_no parsed_value (ParseResult n text.now out.old out.new) result }
 {
-    pack_parsed(scramble_parser::parse_scramble(n, text, out))
+    scramble_parser::parse_scramble(n, text, out).pack()
 }
 
 // Reads an algorithm with groups, and expands them.
 pub fn cubesim_parse_algorithm(n: usize, text: &[u8], out: &mut [MoveCode]) -> u64
     ensures { Packed parsed_no parsed_value (AlgorithmResult n text.now out.old out.new) result }
 {
-    pack_parsed(algorithm_parser::parse_algorithm(n, text, out))
+    algorithm_parser::parse_algorithm(n, text, out).pack()
 }
 
 // Writes a list as a scramble.
 pub fn cubesim_write_scramble(n: usize, moves: &[MoveCode], out: &mut [u8]) -> u64
     ensures { Packed answer_no answer_value (WriteResult n moves.now out.old out.new) result }
 {
-    pack_answer(scramble_writer::write_scramble(n, moves, out))
+    scramble_writer::write_scramble(n, moves, out).pack()
 }
 
 // Joins neighbours until none join.
 pub fn cubesim_simplify_moves(n: usize, moves: &[MoveCode], out: &mut [MoveCode]) -> u64
     ensures { Packed answer_no answer_value (SimplifyResult n moves.now out.old out.new) result }
 {
-    pack_answer(move_lists::simplify_moves(n, moves, out))
+    move_lists::simplify_moves(n, moves, out).pack()
 }
 
 // The list that undoes a list.
 pub fn cubesim_invert_moves(n: usize, moves: &[MoveCode], out: &mut [MoveCode]) -> u64
     ensures { Packed answer_no answer_value (InvertResult n moves.now out.old out.new) result }
 {
-    pack_answer(move_lists::invert_moves(n, moves, out))
+    move_lists::invert_moves(n, moves, out).pack()
 }
 
 // A pruning table.
@@ -201,7 +133,7 @@ pub fn cubesim_pruning_table(
 ) -> u64
     ensures { Packed answer_no answer_value (PruningTableResult n starts.now moves.now depth table.old table.new) result }
 {
-    pack_answer(pruning_table::pruning_table(n, starts, moves, depth, table))
+    pruning_table::pruning_table(n, starts, moves, depth, table).pack()
 }
 
 // The search.
@@ -215,7 +147,7 @@ pub fn cubesim_ida_star(
     work: &mut [u8],
     out: &mut [MoveCode],
 ) -> u64
-    ensures { Packed outcome_no outcome_value (IdaStarResult (record { n = n; cube = cube.now; table = table.now; depth = depth; candidates = moves.now; limit = limit }) work.old work.new out.old out.new) result }
+    ensures { Packed answer_no outcome_value (IdaStarResult (record { n = n; cube = cube.now; table = table.now; depth = depth; candidates = moves.now; limit = limit }) work.old work.new out.old out.new) result }
 {
-    pack_outcome(ida_star::ida_star(n, cube, table, depth, moves, limit, work, out))
+    ida_star::ida_star(n, cube, table, depth, moves, limit, work, out).pack()
 }

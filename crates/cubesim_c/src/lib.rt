@@ -3,7 +3,7 @@
 #![tactic(auto)]
 
 ghost use Rattle.std.specs.Prelude.{◌≡◌};
-ghost use Rattle.generic_cube.specs.Answers.{done_no, answer_no, answer_value, answer};
+ghost use Rattle.generic_cube.specs.Answers.{answer_no, answer_value, answer};
 ghost use Rattle.generic_cube.specs.AllMoves.{AllMovesResult};
 ghost use Rattle.generic_cube.specs.StickerIndex.{sticker_refusal, sticker_index};
 ghost use Rattle.move_lists.specs.Lists.{SimplifyResult, InvertResult};
@@ -13,7 +13,7 @@ ghost use Rattle.algorithm_parser.specs.Groups.{AlgorithmResult};
 ghost use Rattle.facelet_cube.specs.Apply.{ApplyMovesResult};
 ghost use Rattle.facelet_cube.specs.Cube.{verdict, verdict_no, verdict_value, SolvedResult, SolvedIdsResult, MaskResult};
 ghost use Rattle.pruning_table.specs.PruningTable.{PruningTableResult};
-ghost use Rattle.ida_star.specs.IdaStar.{IdaStarResult, outcome_no, outcome_value};
+ghost use Rattle.ida_star.specs.IdaStar.{IdaStarResult, outcome_value};
 ghost use Rattle.cubesim.specs.Pack.{version, Packed};
 
 use ground::codes::MoveCode;
@@ -29,7 +29,7 @@ pub extern "C" fn cubesim_version() -> u64
 // The solved cube.
 #[unsafe(no_mangle)]
 pub extern "C" fn cubesim_solved(n: usize, cube: &mut [u8]) -> u64
-    ensures { Packed done_no (λ a. 0) (SolvedResult n cube.old cube.new) result }
+    ensures { Packed answer_no (λ a. 0) (SolvedResult n cube.old cube.new) result }
 {
     cubesim::cubesim_solved(n, cube)
 }
@@ -37,7 +37,7 @@ pub extern "C" fn cubesim_solved(n: usize, cube: &mut [u8]) -> u64
 // The ids of the solved cube.
 #[unsafe(no_mangle)]
 pub extern "C" fn cubesim_solved_ids(n: usize, ids: &mut [u16]) -> u64
-    ensures { Packed done_no (λ a. 0) (SolvedIdsResult n ids.old ids.new) result }
+    ensures { Packed answer_no (λ a. 0) (SolvedIdsResult n ids.old ids.new) result }
 {
     cubesim::cubesim_solved_ids(n, ids)
 }
@@ -61,7 +61,7 @@ pub extern "C" fn cubesim_sticker_index(n: usize, face: u8, index: usize) -> u64
 // The letters that a keep slice hides.
 #[unsafe(no_mangle)]
 pub extern "C" fn cubesim_mask(n: usize, cube: &mut [u8], ids: &[u16], keep: &[u8]) -> u64
-    ensures { Packed done_no (λ a. 0) (MaskResult n cube.old ids.now keep.now cube.new) result }
+    ensures { Packed answer_no (λ a. 0) (MaskResult n cube.old ids.now keep.now cube.new) result }
 {
     cubesim::cubesim_mask(n, cube, ids, keep)
 }
@@ -74,7 +74,7 @@ pub extern "C" fn cubesim_apply_moves(
     work: &mut [u8],
     moves: &[MoveCode],
 ) -> u64
-    ensures { Packed done_no (λ a. 0) (ApplyMovesResult n cube.old work.old moves.now cube.new work.new) result }
+    ensures { Packed answer_no (λ a. 0) (ApplyMovesResult n cube.old work.old moves.now cube.new work.new) result }
 {
     cubesim::cubesim_apply_moves(n, cube, work, moves)
 }
@@ -87,7 +87,7 @@ pub extern "C" fn cubesim_apply_moves_to_ids(
     work: &mut [u16],
     moves: &[MoveCode],
 ) -> u64
-    ensures { Packed done_no (λ a. 0) (ApplyMovesResult n ids.old work.old moves.now ids.new work.new) result }
+    ensures { Packed answer_no (λ a. 0) (ApplyMovesResult n ids.old work.old moves.now ids.new work.new) result }
 {
     cubesim::cubesim_apply_moves_to_ids(n, ids, work, moves)
 }
@@ -166,7 +166,7 @@ pub extern "C" fn cubesim_ida_star(
     work: &mut [u8],
     out: &mut [MoveCode],
 ) -> u64
-    ensures { Packed outcome_no outcome_value (IdaStarResult (record { n = n; cube = cube.now; table = table.now; depth = depth; candidates = moves.now; limit = limit }) work.old work.new out.old out.new) result }
+    ensures { Packed answer_no outcome_value (IdaStarResult (record { n = n; cube = cube.now; table = table.now; depth = depth; candidates = moves.now; limit = limit }) work.old work.new out.old out.new) result }
 {
     cubesim::cubesim_ida_star(n, cube, table, depth, moves, limit, work, out)
 }

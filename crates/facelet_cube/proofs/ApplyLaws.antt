@@ -1,24 +1,29 @@
 -- Laws of moving and of the list runner. One proof serves letters and ids: a slice of either is a list of numbers.
 use Prim.Native.Nat.{ℕ, ◌+◌, ◌<◌, ◌≤◌}
 use mathlib.Core.Path.{◌≡◌, refl, sym, ap, ◌∙◌}
-use mathlib.Core.Bool.{true}
-use mathlib.Core.List.{List, ◌∷◌}
+use mathlib.Core.Bool.{true, not}
+use mathlib.Core.List.{List, ◌∷◌, ◌++◌}
 use native.Mathlib.Omega.{arith}
 use native.Mathlib.Numerals.{add-one}
 use lib.ListN.{length, get_or, drop, replicate, drop_of_length-le}
 use lib.Seq.{drop-cons}
+use lib.Dec.{eqb}
 use borrow.Author.Tests.{eqb-true, ne_eqb, eq-eqb, not-false}
-use Rattle.ground.specs.Refusals.{lowest}
+use Rattle.std.specs.Prelude.{Ok, Err}
+use Rattle.ground.specs.declared.refusals.Refusal.{Refusal}
+use Rattle.ground.specs.Refusals.{◌when◌, lowest}
 use Rattle.ground.proofs.RefusalLaws.{passed, pass_lowest}
 use Rattle.generic_cube.specs.declared.Move.{Move}
-use Rattle.generic_cube.specs.declared.Done.{Done}
-use Rattle.generic_cube.specs.declared.Done.TheVariants.{Ok}
+use Rattle.generic_cube.specs.Answers.{done}
+use Rattle.generic_cube.proofs.AnswerLaws.{err_number}
 use Rattle.generic_cube.specs.Sizes.{sized, stickers}
 use Rattle.generic_cube.specs.Code.{move_of, list_rows, list_refusal}
 use Rattle.generic_cube.proofs.CodeLaws.{size_in_range, bounds_sized}
 use Rattle.geometric_moves.specs.Turn.{moved, run}
 use Rattle.geometric_moves.proofs.MovedLaws.{length_moved}
-use Rattle.facelet_cube.specs.Inner.{Runnable}
+use Rattle.facelet_cube.specs.Inner.{Whole, Runnable}
+use Rattle.facelet_cube.specs.Cube.{cube_rows, cube_refusal}
+use Rattle.facelet_cube.proofs.CubeLaws.{refused_here, taken_here, sized_rows}
 use Rattle.facelet_cube.specs.Apply.{apply_rows, apply_refusal, ApplyMovesResult}
 
 -- nothing is refused
@@ -54,9 +59,6 @@ pub record Running (n : ℕ) (moves cube₀ cube : List ℕ) (i : ℕ) : Type 0 
   pub rest : run n (drop i moves) cube ≡ run n moves cube₀
 
 module _ {n : ℕ} {moves cube₀ : List ℕ} where
-  pub runs_none : length cube₀ ≡ stickers n → Running n moves cube₀ cube₀ 0
-  runs_none a = record { most = omega arith; cube_long = a; rest = refl }
-
   pub runs_more : {cube cube' : List ℕ} {m : Move} {i : ℕ} → Running n moves cube₀ cube i → i < length moves
       → m ≡ move_of (get_or moves i 0) → cube' ≡ moved n m cube → Running n moves cube₀ cube' (i + 1)
   unfolding run
@@ -72,16 +74,30 @@ module _ {n : ℕ} {moves cube₀ : List ℕ} where
   unfolding run
   runs_all {cube} {i} r h = rw (drop_of_length-le moves h) at r.rest
 
+-- the checks of the entry: the cube, the work area, then the list
+module _ (n cube work : ℕ) (moves : List ℕ) where
+  pub apply_cube : {r : Refusal} → Err r ≡ done (cube_refusal n cube) → Err r ≡ done (apply_refusal n cube work moves)
+  unfolding apply_refusal
+  apply_cube e = refused_here n cube (2 when not (eqb work (stickers n)) ∷ list_rows n moves) refl e
+
+  module _ (w : Whole n cube) where
+    apply_behind_cube : apply_refusal n cube work moves ≡ lowest (cube_rows n work ++ list_rows n moves)
+    unfolding apply_refusal
+    apply_behind_cube = taken_here n cube (2 when not (eqb work (stickers n)) ∷ list_rows n moves) w ∙ sized_rows n work (list_rows n moves) w.size
+
+    pub apply_work : {r : Refusal} → Err r ≡ done (cube_refusal n work) → Err r ≡ done (apply_refusal n cube work moves)
+    apply_work e = refused_here n work (list_rows n moves) apply_behind_cube e
+
+    pub apply_moves_rows : Whole n work → apply_refusal n cube work moves ≡ list_refusal n moves
+    unfolding list_refusal
+    apply_moves_rows k = apply_behind_cube ∙ taken_here n work (list_rows n moves) k
+
 -- the entry: refused, and done
-pub apply_refused : (n : ℕ) (cube work moves : List ℕ) {k : ℕ} → k ≡ apply_refusal n (length cube) (length work) moves → (k ≡ 0 → ⊥)
-    → ApplyMovesResult n cube work moves cube work (Done.Refused k)
-apply_refused n cube work moves e z =
-    record {
-      answered = simp (← e, ne_eqb _ _ z);
-      cube_is = simp (← e, ne_eqb _ _ z);
-      work_is = simp (← e, ne_eqb _ _ z);
-    }
+pub apply_refused : (n : ℕ) (cube work moves : List ℕ) {r : Refusal} → Err r ≡ done (apply_refusal n (length cube) (length work) moves)
+    → ApplyMovesResult n cube work moves cube work (Err r)
+apply_refused n cube work moves e =
+    let z = ne_eqb _ _ (err_number _ tt e).0 in record { answered = e; cube_is = rw z; work_is = rw z }
 
 pub apply_done : (n : ℕ) (cube work moves : List ℕ) {cube' work' : List ℕ} → apply_refusal n (length cube) (length work) moves ≡ 0
-    → cube' ≡ run n moves cube → work' ≡ replicate (stickers n) 0 → ApplyMovesResult n cube work moves cube' work' Ok
+    → cube' ≡ run n moves cube → work' ≡ replicate (stickers n) 0 → ApplyMovesResult n cube work moves cube' work' (Ok tt)
 apply_done n cube work moves e a b = record { answered = rw e; cube_is = a ∙ rw e; work_is = b ∙ rw e }

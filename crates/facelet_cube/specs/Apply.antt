@@ -1,7 +1,7 @@
 -- A list of moves applied to a cube of letters or of ids.
-use Rattle.std.specs.Prelude.{ℕ, ◌≡◌, not, List, ◌∷◌, eqb, length, replicate}
+use Rattle.std.specs.Prelude.{ℕ, ◌≡◌, not, List, ◌∷◌, Result, eqb, length, replicate}
+use Rattle.ground.specs.declared.refusals.Refusal.{Refusal}
 use Rattle.ground.specs.Refusals.{Row, ◌when◌, lowest}
-use Rattle.generic_cube.specs.declared.Done.{Done}
 use Rattle.generic_cube.specs.Sizes.{sized, stickers}
 use Rattle.generic_cube.specs.Answers.{done, unless}
 use Rattle.generic_cube.specs.Code.{list_rows}
@@ -16,7 +16,7 @@ unfoldable pub apply_refusal : ℕ → ℕ → ℕ → List ℕ → ℕ
 apply_refusal n cube work moves = lowest (apply_rows n cube work moves)
 
 -- every move in order; on success, for an empty list too, the work area is zero; a refusal changes nothing
-pub record ApplyMovesResult (n : ℕ) (cube work moves cube' work' : List ℕ) (r : Done) : Type 0 where
+pub record ApplyMovesResult (n : ℕ) (cube work moves cube' work' : List ℕ) (r : Result (Unit {0}) Refusal) : Type 0 where
   pub answered : r ≡ done (apply_refusal n (length cube) (length work) moves)
   pub cube_is : cube' ≡ unless (apply_refusal n (length cube) (length work) moves) (run n moves cube) cube
   pub work_is : work' ≡ unless (apply_refusal n (length cube) (length work) moves) (replicate (stickers n) 0) work

@@ -1,13 +1,11 @@
 -- The solved cube with its letters and ids, the solved test, and masks.
-use Rattle.std.specs.Prelude.{ℕ, ◌*◌, ◌/◌, Bool, not, List, [], ◌∷◌, leb, eqb, length, get_or, take, drop}
+use Rattle.std.specs.Prelude.{ℕ, ◌*◌, ◌/◌, Bool, true, false, not, Result, Ok, Err, List, [], ◌∷◌, leb, eqb, length, get_or, take, drop}
 use Rattle.ground.specs.Choice.{pick, any, all}
 use Rattle.ground.specs.Lists.{tabulate}
+use Rattle.ground.specs.declared.refusals.Refusal.{Refusal}
 use Rattle.ground.specs.Refusals.{Row, ◌when◌, lowest}
-use Rattle.generic_cube.specs.declared.Done.{Done}
 use Rattle.generic_cube.specs.Sizes.{sized, stickers, letters, letter_x}
-use Rattle.generic_cube.specs.Answers.{DoneWith}
-use Rattle.facelet_cube.specs.declared.cube.Verdict.{Verdict}
-use Rattle.facelet_cube.specs.declared.cube.Verdict.TheVariants.{Solved, Unsolved, Refused}
+use Rattle.generic_cube.specs.Answers.{answer, answer_no, DoneWith}
 
 -- 1: the size; 2: the slice isn't 6n² long
 abbrev pub cube_rows : ℕ → ℕ → List Row
@@ -24,10 +22,10 @@ solved_cube n = tabulate (stickers n) (λ j. get_or letters (j / n / n) 0)
 unfoldable pub solved_ids : ℕ → List ℕ
 solved_ids n = tabulate (stickers n) (λ j. j)
 
-abbrev pub SolvedResult : ℕ → List ℕ → List ℕ → Done → Type 0
+abbrev pub SolvedResult : ℕ → List ℕ → List ℕ → Result (Unit {0}) Refusal → Type 0
 SolvedResult n cube cube' r = DoneWith (cube_refusal n (length cube)) (solved_cube n) cube cube' r
 
-abbrev pub SolvedIdsResult : ℕ → List ℕ → List ℕ → Done → Type 0
+abbrev pub SolvedIdsResult : ℕ → List ℕ → List ℕ → Result (Unit {0}) Refusal → Type 0
 SolvedIdsResult n ids ids' r = DoneWith (cube_refusal n (length ids)) (solved_ids n) ids ids' r
 
 -- solved: each face shows one byte
@@ -41,20 +39,17 @@ face_stickers n k cube = take (n * n) (drop (k * (n * n)) cube)
 unfoldable pub is_solved : ℕ → List ℕ → Bool
 is_solved n cube = all (λ k. one_byte (face_stickers n k cube)) (0 ∷ 1 ∷ 2 ∷ 3 ∷ 4 ∷ 5 ∷ [])
 
-unfoldable pub verdict : ℕ → List ℕ → Verdict
-verdict n cube =
-    pick (eqb (cube_refusal n (length cube)) 0) (pick (is_solved n cube) Solved Unsolved) (Refused (cube_refusal n (length cube)))
+unfoldable pub verdict : ℕ → List ℕ → Result Bool Refusal
+verdict n cube = answer (cube_refusal n (length cube)) (is_solved n cube)
 
 -- the rules' number and value of each case: 1 solved, 0 not
-abbrev pub verdict_no : Verdict → ℕ
-verdict_no Solved = 0
-verdict_no Unsolved = 0
-verdict_no (Refused k) = k
+abbrev pub verdict_no : Result Bool Refusal → ℕ
+verdict_no r = answer_no r
 
-abbrev pub verdict_value : Verdict → ℕ
-verdict_value Solved = 1
-verdict_value Unsolved = 0
-verdict_value (Refused k) = 0
+abbrev pub verdict_value : Result Bool Refusal → ℕ
+verdict_value (Ok true) = 1
+verdict_value (Ok false) = 0
+verdict_value (Err r) = 0
 
 -- whether an id is 6n² or more
 abbrev pub large_id : ℕ → List ℕ → Bool
@@ -73,5 +68,5 @@ mask_refusal n cube ids keep = lowest (mask_rows n cube ids keep)
 unfoldable pub masked : ℕ → List ℕ → List ℕ → List ℕ → List ℕ
 masked n cube ids keep = tabulate (stickers n) (λ j. pick (eqb (get_or keep (get_or ids j 0) 0) 0) letter_x (get_or cube j 0))
 
-abbrev pub MaskResult : ℕ → List ℕ → List ℕ → List ℕ → List ℕ → Done → Type 0
+abbrev pub MaskResult : ℕ → List ℕ → List ℕ → List ℕ → List ℕ → Result (Unit {0}) Refusal → Type 0
 MaskResult n cube ids keep cube' r = DoneWith (mask_refusal n (length cube) ids (length keep)) (masked n cube ids keep) cube cube' r

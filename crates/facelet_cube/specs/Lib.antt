@@ -1,3 +1,4 @@
 pub mod Cube
 pub mod Apply
 pub mod Inner
+pub mod InnerFacelets

@@ -1,89 +1,65 @@
 ghost use Rattle.std.specs.Prelude.{◌≡◌, length};
-ghost use Rattle.facelet_cube.specs.Cube.{cube_refusal, solved_cube, solved_ids, one_byte, is_solved, verdict, large_id, mask_refusal, masked, SolvedResult, SolvedIdsResult, MaskResult};
+ghost use Rattle.ground.specs.Lists.{tabulate};
+ghost use Rattle.generic_cube.specs.Answers.{done, DoneWith};
+ghost use Rattle.generic_cube.specs.Sizes.{stickers};
+ghost use Rattle.facelet_cube.specs.Cube.{cube_refusal, one_byte, is_solved, verdict, large_id, mask_refusal, masked, SolvedResult, SolvedIdsResult, MaskResult};
 ghost use Rattle.facelet_cube.specs.Inner.{Whole, Masks};
 
-use generic_cube::Done;
-use generic_cube::stickers::LETTERS;
+use crate::Facelet;
+use ground::refusals::Refusal;
 
-// Whether a cube is solved.
-#[derive(Clone, Copy)]
-pub enum Verdict {
-    Solved,
-    Unsolved,
-    Refused(u8),
-}
-
-// The refusal of a slice that is to be a cube, 0 for none.
-fn cube_refusal(n: usize, long: usize) -> u8
-    ensures { result ≡ cube_refusal n long }
+// The refusal of a slice that is to be a cube.
+#[tactic(auto, using(generic_cube::proofs::CodeLaws::sized_bounds, sticker::proofs::PlaceLaws::room), unfolding(crate::specs::Cube::cube_refusal, ground::specs::Refusals::lowest))]
+pub(crate) fn check_cube(n: usize, long: usize) -> Result<(), Refusal>
+    ensures { result ≡ done (cube_refusal n long) }
 {
-    if generic_cube::is_size(n) {
-        let count = 6 * n * n;
-        if long != count {
-            return 2;
-        }
-        return 0;
+    if !generic_cube::is_size(n) {
+        return Err(Refusal::Size);
     }
-    1
+    if long != 6 * n * n {
+        return Err(Refusal::Length);
+    }
+    Ok(())
 }
 
-fn put_letters(n: usize, cube: &mut [u8])
+fn put_solved<T: Facelet>(n: usize, cube: &mut [T])
     requires { Whole n (length cube.old) }
-    ensures { cube.new ≡ solved_cube n }
+    ensures { T.numbers cube.new ≡ tabulate (stickers n) (T.shown n) }
 {
-    let mut j: usize = 0;
-    while j < cube.len() {
-        cube[j] = LETTERS[j / n / n];
-        j += 1;
+    for (j, sticker) in cube.iter_mut().enumerate() {
+        *sticker = T::shown_at(n, j);
     }
 }
 
-fn put_ids(n: usize, ids: &mut [u16])
-    requires { Whole n (length ids.old) }
-    ensures { ids.new ≡ solved_ids n }
+// Puts the solved cube into a slice of letters or of ids.
+fn solve<T: Facelet>(n: usize, cube: &mut [T]) -> Result<(), Refusal>
+    ensures { DoneWith (cube_refusal n (length cube.old)) (tabulate (stickers n) (T.shown n)) (T.numbers cube.old) (T.numbers cube.new) result }
 {
-    let mut j: usize = 0;
-    while j < ids.len() {
-        ids[j] = j as u16;
-        j += 1;
-    }
+    check_cube(n, cube.len())?;
+    put_solved(n, cube);
+    Ok(())
 }
 
 // The solved cube: each sticker shows the letter of its face.
-pub fn solved(n: usize, cube: &mut [u8]) -> Done
+#[tactic(auto, unfolding(crate::specs::Cube::solved_cube))]
+pub fn solved(n: usize, cube: &mut [u8]) -> Result<(), Refusal>
     ensures { SolvedResult n cube.old cube.new result }
 {
-    let number = cube_refusal(n, cube.len());
-    if number != 0 {
-        return Done::Refused(number);
-    }
-    put_letters(n, cube);
-    Done::Ok
+    solve(n, cube)
 }
 
 // The ids of the solved cube: 0, 1, 2 and so on.
-pub fn solved_ids(n: usize, ids: &mut [u16]) -> Done
+#[tactic(auto, unfolding(crate::specs::Cube::solved_ids))]
+pub fn solved_ids(n: usize, ids: &mut [u16]) -> Result<(), Refusal>
     ensures { SolvedIdsResult n ids.old ids.new result }
 {
-    let number = cube_refusal(n, ids.len());
-    if number != 0 {
-        return Done::Refused(number);
-    }
-    put_ids(n, ids);
-    Done::Ok
+    solve(n, ids)
 }
 
 fn shows_one_byte(face: &[u8]) -> bool
     ensures { result ≡ one_byte face.now }
 {
-    let mut j: usize = 0;
-    while j < face.len() {
-        if face[j] != face[0] {
-            return false;
-        }
-        j += 1;
-    }
-    true
+    face.iter().all(|&x| x == face[0])
 }
 
 // Whether each face shows one byte.
@@ -92,89 +68,56 @@ fn all_faces_solved(n: usize, cube: &[u8]) -> bool
     ensures { result ≡ is_solved n cube.now }
 {
     let side = n * n;
-    let mut k: usize = 0;
-    while k < 6 {
+    for k in 0..6 {
         let start = k * side;
-        let end = start + side;
-        if shows_one_byte(&cube[start..end]) {
-            k += 1;
-        } else {
+        if !shows_one_byte(&cube[start..start + side]) {
             return false;
         }
     }
     true
 }
 
-pub fn is_solved(n: usize, cube: &[u8]) -> Verdict
+pub fn is_solved(n: usize, cube: &[u8]) -> Result<bool, Refusal>
     ensures { result ≡ verdict n cube.now }
 {
-    let number = cube_refusal(n, cube.len());
-    if number != 0 {
-        return Verdict::Refused(number);
-    }
-    if all_faces_solved(n, cube) {
-        return Verdict::Solved;
-    }
-    Verdict::Unsolved
+    check_cube(n, cube.len())?;
+    Ok(all_faces_solved(n, cube))
 }
 
 fn has_large_id(count: usize, ids: &[u16]) -> bool
     ensures { result ≡ large_id count ids.now }
 {
-    let mut j: usize = 0;
-    while j < ids.len() {
-        if count <= ids[j] as usize {
-            return true;
-        }
-        j += 1;
-    }
-    false
+    ids.iter().any(|&id| count <= id as usize)
 }
 
-fn mask_refusal(n: usize, cube: usize, ids: &[u16], keep: usize) -> u8
-    ensures { result ≡ mask_refusal n cube ids.now keep }
+fn check_mask(n: usize, cube: usize, ids: &[u16], keep: usize) -> Result<(), Refusal>
+    ensures { result ≡ done (mask_refusal n cube ids.now keep) }
 {
-    if generic_cube::is_size(n) {
-        let count = 6 * n * n;
-        if cube != count {
-            return 2;
-        }
-        if ids.len() != count {
-            return 2;
-        }
-        if keep != count {
-            return 2;
-        }
-        if has_large_id(count, ids) {
-            return 10;
-        }
-        return 0;
+    check_cube(n, cube)?;
+    check_cube(n, ids.len())?;
+    check_cube(n, keep)?;
+    if has_large_id(cube, ids) {
+        return Err(Refusal::Index);
     }
-    1
+    Ok(())
 }
 
 fn put_mask(n: usize, cube: &mut [u8], ids: &[u16], keep: &[u8])
     requires { Masks n (length cube.old) ids.now (length keep.now) }
     ensures { cube.new ≡ masked n cube.old ids.now keep.now }
 {
-    let mut j: usize = 0;
-    while j < cube.len() {
-        let id = ids[j] as usize;
-        if keep[id] == 0 {
-            cube[j] = 88;
+    for (j, sticker) in cube.iter_mut().enumerate() {
+        if keep[ids[j] as usize] == 0 {
+            *sticker = b'X';
         }
-        j += 1;
     }
 }
 
 // Where the keep byte at a sticker's id is 0 its letter becomes X.
-pub fn mask(n: usize, cube: &mut [u8], ids: &[u16], keep: &[u8]) -> Done
+pub fn mask(n: usize, cube: &mut [u8], ids: &[u16], keep: &[u8]) -> Result<(), Refusal>
     ensures { MaskResult n cube.old ids.now keep.now cube.new result }
 {
-    let number = mask_refusal(n, cube.len(), ids, keep.len());
-    if number != 0 {
-        return Done::Refused(number);
-    }
+    check_mask(n, cube.len(), ids, keep.len())?;
     put_mask(n, cube, ids, keep);
-    Done::Ok
+    Ok(())
 }

@@ -15,7 +15,7 @@ use Rattle.ground.specs.Choice.{pick}
 use Rattle.ground.proofs.ChoiceLaws.{bool_cases, less_cases}
 use Rattle.generic_cube.specs.Sizes.{stickers}
 use Rattle.sticker.proofs.PlaceLaws.{digits_below}
-use Rattle.facelet_lanes.specs.InnerLanes.{ring_lane, prior, cycled, line_cycled, ring_turned}
+use Rattle.facelet_lanes.specs.InnerLanes.{ring_lane, ring_of, prior, cycled, line_cycled, ring_turned}
 use Rattle.facelet_lanes.proofs.LaneLaws.{length_line, length_ring}
 use Rattle.facelet_lanes.proofs.RingLaws.{ring_place, Cell, ring_below}
 
@@ -163,14 +163,14 @@ module _ {n ring end count : ℕ} {key : ℕ → ℕ} (t : ℕ) (from : ℕ → 
 
   line_done : (p : ℕ) (c : List ℕ) → first ≤ p → p < end → length c ≡ stickers n → CellsDone n key from l c₀ (first * count) (p * count) c
       → (q : ℕ) → q ≤ count → CellsDone n key from l c₀ (first * count) (p * count + q)
-      (line_cycled t p (ring_lane n ring 0) (ring_lane n ring 1) (ring_lane n ring 2) (ring_lane n ring 3) q c)
+      (line_cycled t p (ring_of n ring) q c)
   unfolding line_cycled
   line_done p c hf hp hl s zero hq = subst (λ (N : ℕ). CellsDone n key from l c₀ (first * count) N c) (sym (add-zero (p * count))) s
   line_done p c hf hp hl s (suc q) hq =
-      subst (λ (N : ℕ). CellsDone n key from l c₀ (first * count) N (line_cycled t p (ring_lane n ring 0) (ring_lane n ring 1) (ring_lane n ring 2) (ring_lane n ring 3) (suc q) c))
+      subst (λ (N : ℕ). CellsDone n key from l c₀ (first * count) N (line_cycled t p (ring_of n ring) (suc q) c))
       (sym (add-suc (p * count) q))
-      (cell_done p q (line_cycled t p (ring_lane n ring 0) (ring_lane n ring 1) (ring_lane n ring 2) (ring_lane n ring 3) q c) hf hp (omega arith)
-      (length_line t p _ _ _ _ q c ∙ hl) (line_done p c hf hp hl s q (omega arith)))
+      (cell_done p q (line_cycled t p (ring_of n ring) q c) hf hp (omega arith)
+      (length_line t p _ q c ∙ hl) (line_done p c hf hp hl s q (omega arith)))
 
   pub ring_turned_lem : (p : ℕ) → first + p ≤ end → CellsDone n key from l c₀ (first * count) ((first + p) * count) (ring_turned n t ring count first p c₀)
   unfolding ring_turned

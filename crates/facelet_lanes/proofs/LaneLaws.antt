@@ -1,21 +1,21 @@
 -- Laws of lanes: where their places are, that they are places of the cube, and what the loops over them keep true.
-use Prim.Native.Nat.{ℕ, zero, suc, ◌+◌, ◌-◌, ◌*◌, ◌/◌, ◌%◌, ◌<◌, ◌≤◌}
+use Prim.Native.Nat.{ℕ, zero, suc, ◌+◌, ◌-◌, ◌*◌, ◌/◌, ◌<◌, ◌≤◌}
 use mathlib.Core.Path.{◌≡◌, refl, ap, sym, subst, ◌∙◌}
 use mathlib.Core.Bool.{Bool, true, false}
 use mathlib.Core.List.{List, [], ◌∷◌}
 use native.Mathlib.Omega.{arith}
 use native.Mathlib.Numerals.{add-one}
-use native.Mathlib.Nat.{div-one, add-mul, mul-le-mul, mul-le-mul_right, suc-mul}
+use native.Mathlib.Nat.{add-mul, mul-le-mul, mul-le-mul_right, suc-mul}
 use lib.Dec.{ltb, eqb}
 use lib.ListN.{length, get_or, set, length-set}
-use borrow.Author.Tests.{ltb-true, eqb-true}
+use borrow.Author.Tests.{ltb-true}
 use Rattle.generic_cube.specs.Inner.{Sized}
 use Rattle.ground.proofs.ChoiceLaws.{any_below, tested}
 use Rattle.generic_cube.specs.Sizes.{stickers}
 use Rattle.sticker.proofs.PlaceLaws.{room, digits_below}
 use Rattle.facelet_lanes.specs.declared.Lane.{Lane}
 use Rattle.facelet_lanes.specs.declared.Ring.{Ring}
-use Rattle.facelet_lanes.specs.InnerLanes.{ring_faces, ring_edges, ring_word, corners, lane_of, Framed, ring_of, place_on, Spot, ring_lane, prior, cycled, line_cycled, ring_turned, face_turned, layers_turned, PlaceFits, LineFits, RingFits}
+use Rattle.facelet_lanes.specs.InnerLanes.{ring_faces, ring_edges, corners, lane_of, ring_of, place_on, Spot, ring_lane, prior, cycled, line_cycled, ring_turned, face_turned, layers_turned, PlaceFits, LineFits, RingFits}
 
 pub ring_face_lem : (i : ℕ) → i < 72 → get_or ring_faces i 0 < 6
 unfolding ring_faces any_below
@@ -24,60 +24,6 @@ ring_face_lem i h = ltb-true _ _ (tested (λ k. ltb (get_or ring_faces k 0) 6) 7
 pub ring_edge : (i : ℕ) → i < 72 → get_or ring_edges i 0 < 4
 unfolding ring_edges any_below
 ring_edge i h = ltb-true _ _ (tested (λ k. ltb (get_or ring_edges k 0) 4) 72 refl i h)
-
--- the words hold the table
-pub record LaneWord (ring k word : ℕ) : Type 0 where
-  pub face : word / 4 % 8 ≡ get_or ring_faces (4 * ring + k) 0
-  pub edge : word % 4 ≡ get_or ring_edges (4 * ring + k) 0
-  pub small : word / 4 % 8 < 6
-
--- by how much a word is divided to have lane k lowest
-unfoldable pub word_step : ℕ → ℕ
-word_step k = get_or (1 ∷ 32 ∷ 1024 ∷ 32768 ∷ []) k 1
-
-abbrev word_at : ℕ → ℕ
-word_at i = ring_word (i / 4) / word_step (i % 4)
-
-lane_word_at : (i : ℕ) → i < 72 → LaneWord (i / 4) (i % 4) (word_at i)
-unfolding ring_word ring_faces ring_edges any_below word_step
-lane_word_at i h =
-    record {
-      face = eqb-true _ _ (tested (λ k. eqb (word_at k / 4 % 8) (get_or ring_faces (4 * (k / 4) + k % 4) 0)) 72 refl i h);
-      edge = eqb-true _ _ (tested (λ k. eqb (word_at k % 4) (get_or ring_edges (4 * (k / 4) + k % 4) 0)) 72 refl i h);
-      small = ltb-true _ _ (tested (λ k. ltb (word_at k / 4 % 8) 6) 72 refl i h);
-    }
-
-lane_word : (ring k : ℕ) → ring < 18 → k < 4 → LaneWord ring k (ring_word ring / word_step k)
-lane_word ring k hr hk =
-    let a : (4 * ring + k) / 4 ≡ ring = omega arith in
-    let b : (4 * ring + k) % 4 ≡ k = omega arith in
-    subst (λ (x : ℕ). LaneWord ring x (ring_word ring / word_step x)) b
-    (subst (λ (x : ℕ). LaneWord x ((4 * ring + k) % 4) (ring_word x / word_step ((4 * ring + k) % 4))) a (lane_word_at (4 * ring + k) (omega arith)))
-
-pub record RingWords (ring word : ℕ) : Type 0 where
-  pub a_held : LaneWord ring 0 word
-  pub b_held : LaneWord ring 1 (word / 32)
-  pub c_held : LaneWord ring 2 (word / 1024)
-  pub d_held : LaneWord ring 3 (word / 32768)
-
-pub ring_words : {ring word : ℕ} → ring < 18 → word ≡ ring_word ring → RingWords ring word
-unfolding word_step
-ring_words {ring} h e =
-    subst (RingWords ring) (sym e)
-    (record {
-      a_held = subst (LaneWord ring 0) (div-one _) (lane_word ring 0 h (omega arith));
-      b_held = lane_word ring 1 h (omega arith);
-      c_held = lane_word ring 2 h (omega arith);
-      d_held = lane_word ring 3 h (omega arith);
-    })
-
-pub word_lane : (n : ℕ) {ring k word : ℕ} {a : Lane} → LaneWord ring k word → a ≡ lane_of n (word / 4 % 8) (word % 4)
-    → a ≡ lane_of n (get_or ring_faces (4 * ring + k) 0) (get_or ring_edges (4 * ring + k) 0)
-word_lane n h e = e ∙ (λ i. lane_of n (h.face i) (h.edge i))
-
-pub word_small : (ring : ℕ) → ring < 18 → ring_word ring < 1048576
-unfolding ring_word ring_faces ring_edges any_below
-word_small ring h = ltb-true _ _ (tested (λ i. ltb (ring_word i) 1048576) 18 refl ring h)
 
 -- column q of line p of an edge: the number of its row at `edge`, of its column one place further
 abbrev pub spots : ℕ → ℕ → ℕ → List ℕ
@@ -125,37 +71,6 @@ lane_room n face edge z h =
     most (suc (suc zero)) k = omega arith
     most (suc (suc (suc zero))) k = omega arith
     most (suc (suc (suc (suc e)))) k = omega arith
-
--- a lane that is read from lent corners and steps
-pub record FrameRoom (n edge : ℕ) (corner step : List ℕ) : Type 0 where
-  pub corners_long : length corner ≡ 4
-  pub steps_long : length step ≡ 7
-  pub corner_small : get_or corner edge 0 ≤ n * n
-
-pub frame_room : {n face edge : ℕ} {corner step : List ℕ} → Framed n corner step → LaneRoom n face edge → FrameRoom n edge corner step
-frame_room {n} {face} {edge} f r =
-    record {
-      corners_long = ap length f.corner_is;
-      steps_long = ap length f.step_is;
-      corner_small = subst (λ (l : List ℕ). get_or l edge 0 ≤ n * n) (sym f.corner_is) r.corner;
-    }
-
-pub framed_lane : {n : ℕ} {corner step : List ℕ} (face edge : ℕ) → Framed n corner step
-    → record {
-      start = face * n * n + get_or corner edge 0;
-      over = get_or step (edge + 1) 0;
-      along = get_or step edge 0;
-      under = get_or step (edge + 3) 0;
-      behind = get_or step (edge + 2) 0;
-    } ≡ lane_of n face edge
-framed_lane {n} face edge f =
-    λ i. record {
-      start = face * n * n + get_or (f.corner_is i) edge 0;
-      over = get_or (f.step_is i) (edge + 1) 0;
-      along = get_or (f.step_is i) edge 0;
-      under = get_or (f.step_is i) (edge + 3) 0;
-      behind = get_or (f.step_is i) (edge + 2) 0;
-    }
 
 -- a lane's place is found without a sum that is too large or a difference below 0, and is its row and column's
 pub record SpotIs (n face edge p q : ℕ) : Type 0 where
@@ -205,17 +120,9 @@ lane_place_fits n ring k p q z hr hk hp hq =
     (digits_below n 6 g (get_or (spots n p q) e 0) (ring_face_lem _ i) (spot_below n p q e hp hq)) (spot_below n p q (e + 1) hp hq) in
     record { spot = l.spot; within = subst (λ (x : ℕ). x < stickers n) (sym l.is) b }
 
--- an index that is read
-pub record Reads (i long : ℕ) : Type 0 where
-  pub within : i < long
-  pub small : i ≤ 200000
-
-pub reads : {a : Lane} {p q long i : ℕ} → PlaceFits a p q long → i ≡ place_on a p q → Reads i long
-reads f e = record { within = omega (arith, f.within); small = omega (arith, f.spot.room) }
-
 -- a line of a ring's lanes is a line of places of the cube
 pub line_fits : {n ring first lines count long p : ℕ} {r : Ring} → RingFits n ring first lines count long → r ≡ ring_of n ring → p < lines
-    → LineFits (first + p) count r.a r.b r.c r.d long
+    → LineFits (first + p) count r long
 unfolding ring_lane
 line_fits {n} {ring} {first} {lines} {count} {long} {p} {r} f e h =
     record {
@@ -240,50 +147,44 @@ pub length-cycled : (t i j k e : ℕ) (l : List ℕ) → length (cycled t i j k 
 unfolding cycled
 length-cycled t i j k e l = simp length-set
 
-pub length_line : (t p : ℕ) (a b c d : Lane) (q : ℕ) (l : List ℕ) → length (line_cycled t p a b c d q l) ≡ length l
+pub length_line : (t p : ℕ) (r : Ring) (q : ℕ) (l : List ℕ) → length (line_cycled t p r q l) ≡ length l
 unfolding line_cycled
-length_line t p a b c d zero l = refl
-length_line t p a b c d (suc q) l = length-cycled t _ _ _ _ _ ∙ length_line t p a b c d q l
+length_line t p r zero l = refl
+length_line t p r (suc q) l = length-cycled t _ _ _ _ _ ∙ length_line t p r q l
 
 pub length_ring : (n t ring m first p : ℕ) (l : List ℕ) → length (ring_turned n t ring m first p l) ≡ length l
 unfolding ring_turned
 length_ring n t ring m first zero l = refl
-length_ring n t ring m first (suc p) l = length_line t (first + p) _ _ _ _ m _ ∙ length_ring n t ring m first p l
+length_ring n t ring m first (suc p) l = length_line t (first + p) _ m _ ∙ length_ring n t ring m first p l
 
 pub length_face : (n t ring : ℕ) (turns : Bool) (l : List ℕ) → length (face_turned n t ring turns l) ≡ length l
 length_face n t ring true l = length_ring n t ring (n / 2) 0 (n - n / 2) l
 length_face n t ring false l = refl
 
 -- one place more of a line
-pub record LineDone (t p count : ℕ) (a b c d : Lane) (l₀ l : List ℕ) (q : ℕ) : Type 0 where
+pub record LineDone (t p count : ℕ) (r : Ring) (l₀ l : List ℕ) (q : ℕ) : Type 0 where
   pub most : q ≤ count
-  pub done : l ≡ line_cycled t p a b c d q l₀
+  pub done : l ≡ line_cycled t p r q l₀
 
-module _ {t p count : ℕ} {a b c d : Lane} {l₀ : List ℕ} where
-  pub line_none : LineDone t p count a b c d l₀ l₀ 0
+module _ {t p count : ℕ} {r : Ring} {l₀ : List ℕ} where
+  pub line_none : LineDone t p count r l₀ l₀ 0
   unfolding line_cycled
   line_none = record { most = omega arith; done = refl }
 
-  pub line_long : {l : List ℕ} {q : ℕ} → LineDone t p count a b c d l₀ l q → length l ≡ length l₀
-  line_long {l} {q} r = ap length r.done ∙ length_line t p a b c d q l₀
-
-  pub line_more : {l : List ℕ} {q i j k e v₁ v₂ v₃ v₄ : ℕ} → LineDone t p count a b c d l₀ l q → q < count
-      → i ≡ place_on a p q → j ≡ place_on b p q → k ≡ place_on c p q → e ≡ place_on d p q
+  pub line_more : {l : List ℕ} {q i j k e v₁ v₂ v₃ v₄ : ℕ} → LineDone t p count r l₀ l q → q < count
+      → i ≡ place_on r.a p q → j ≡ place_on r.b p q → k ≡ place_on r.c p q → e ≡ place_on r.d p q
       → v₁ ≡ prior t (get_or l e 0) (get_or l k 0) (get_or l j 0) → v₂ ≡ prior t (get_or l i 0) (get_or l e 0) (get_or l k 0)
       → v₃ ≡ prior t (get_or l j 0) (get_or l i 0) (get_or l e 0) → v₄ ≡ prior t (get_or l k 0) (get_or l j 0) (get_or l i 0)
-      → LineDone t p count a b c d l₀ (set (set (set (set l i v₁) j v₂) k v₃) e v₄) (q + 1)
+      → LineDone t p count r l₀ (set (set (set (set l i v₁) j v₂) k v₃) e v₄) (q + 1)
   unfolding line_cycled cycled
-  line_more {l} {q} {i} {j} {k} {e} {v₁} {v₂} {v₃} {v₄} r h ei ej ek ee e₁ e₂ e₃ e₄ =
-      record { most = omega (arith, r.most); done = rw add-one (step ∙ places ∙ ap (cycled t (place_on a p q) (place_on b p q) (place_on c p q) (place_on d p q)) r.done) }
+  line_more {l} {q} {i} {j} {k} {e} {v₁} {v₂} {v₃} {v₄} d h ei ej ek ee e₁ e₂ e₃ e₄ =
+      record { most = omega (arith, d.most); done = rw add-one (step ∙ places ∙ ap (cycled t (place_on r.a p q) (place_on r.b p q) (place_on r.c p q) (place_on r.d p q)) d.done) }
     where
       step : set (set (set (set l i v₁) j v₂) k v₃) e v₄ ≡ cycled t i j k e l
       step = λ x. set (set (set (set l i (e₁ x)) j (e₂ x)) k (e₃ x)) e (e₄ x)
 
-      places : cycled t i j k e l ≡ cycled t (place_on a p q) (place_on b p q) (place_on c p q) (place_on d p q) l
+      places : cycled t i j k e l ≡ cycled t (place_on r.a p q) (place_on r.b p q) (place_on r.c p q) (place_on r.d p q) l
       places = λ x. cycled t (ei x) (ej x) (ek x) (ee x) l
-
-  pub line_all : {l : List ℕ} {q : ℕ} → LineDone t p count a b c d l₀ l q → count ≤ q → l ≡ line_cycled t p a b c d count l₀
-  line_all {l} {q} r h = let e : q ≡ count = omega (arith, r.most) in r.done ∙ ap (λ x. line_cycled t p a b c d x l₀) e
 
 -- one line more of a ring
 pub record RingDone (n t ring count first lines : ℕ) (l₀ l : List ℕ) (p : ℕ) : Type 0 where
@@ -295,17 +196,11 @@ module _ {n t ring count first lines : ℕ} {l₀ : List ℕ} where
   unfolding ring_turned
   ring_none = record { most = omega arith; done = refl }
 
-  pub ring_long : {l : List ℕ} {p : ℕ} → RingDone n t ring count first lines l₀ l p → length l ≡ length l₀
-  ring_long {l} {p} r = ap length r.done ∙ length_ring n t ring count first p l₀
-
   pub ring_more : {l l' : List ℕ} {p : ℕ} {r : Ring} → RingDone n t ring count first lines l₀ l p → p < lines → r ≡ ring_of n ring
-      → l' ≡ line_cycled t (first + p) r.a r.b r.c r.d count l → RingDone n t ring count first lines l₀ l' (p + 1)
+      → l' ≡ line_cycled t (first + p) r count l → RingDone n t ring count first lines l₀ l' (p + 1)
   unfolding ring_turned
   ring_more {l} {l'} {p} {r} d h s e =
-      record { most = omega (arith, d.most); done = rw add-one (e ∙ (λ i. line_cycled t (first + p) (s i).a (s i).b (s i).c (s i).d count (d.done i))) }
-
-  pub ring_all : {l : List ℕ} {p : ℕ} → RingDone n t ring count first lines l₀ l p → lines ≤ p → l ≡ ring_turned n t ring count first lines l₀
-  ring_all {l} {p} r h = let e : p ≡ lines = omega (arith, r.most) in r.done ∙ ap (λ x. ring_turned n t ring count first x l₀) e
+      record { most = omega (arith, d.most); done = rw add-one (e ∙ (λ i. line_cycled t (first + p) (s i) count (d.done i))) }
 
 -- the code's steps: the rings of layers
 pub layers_done : (n t face first count : ℕ) (l : List ℕ) {l₁ l₂ l₃ : List ℕ} → l₁ ≡ ring_turned n t (3 * face) n first count l

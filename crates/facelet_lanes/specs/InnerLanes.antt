@@ -4,6 +4,7 @@ use Rattle.std.specs.Prelude.{ℕ, zero, suc, ◌+◌, ◌-◌, ◌*◌, ◌/◌
 use Rattle.generic_cube.specs.Inner.{Sized}
 use Rattle.ground.specs.Choice.{pick}
 use Rattle.generic_cube.specs.Sizes.{stickers}
+use Rattle.facelet_lanes.specs.declared.Frame.{Frame}
 use Rattle.facelet_lanes.specs.declared.Lane.{Lane}
 use Rattle.facelet_lanes.specs.declared.Ring.{Ring}
 
@@ -27,13 +28,6 @@ ring_edges =
     3 ∷ 3 ∷ 3 ∷ 1 ∷ 0 ∷ 1 ∷ 2 ∷ 3 ∷ 0 ∷ 3 ∷ 2 ∷ 1 ∷
     0 ∷ 3 ∷ 2 ∷ 1 ∷ 0 ∷ 1 ∷ 2 ∷ 3 ∷ 0 ∷ 3 ∷ 2 ∷ 1 ∷ []
 
--- the four lanes of a ring in one number: five bits to a lane, 4 * face + edge, the first lane lowest
-abbrev pub lane_code : ℕ → ℕ
-lane_code i = 4 * get_or ring_faces i 0 + get_or ring_edges i 0
-
-unfoldable pub ring_word : ℕ → ℕ
-ring_word ring = lane_code (4 * ring) + 32 * lane_code (4 * ring + 1) + 1024 * lane_code (4 * ring + 2) + 32768 * lane_code (4 * ring + 3)
-
 -- the four corners of a face, and the steps from a place to the next along each edge, onwards and backwards
 abbrev pub corners : ℕ → List ℕ
 corners n = 0 ∷ (n - 1) ∷ (n * n - 1) ∷ (n * n - n) ∷ []
@@ -51,10 +45,9 @@ lane_of n face edge = record {
   behind = get_or (strides n) (edge + 2) 0;
 }
 
--- a face's corners and the steps along its edges, as the code lends them
-pub record Framed (n : ℕ) (corner step : List ℕ) : Type 0 where
-  pub corner_is : corner ≡ corners n
-  pub step_is : step ≡ strides n
+-- a face's corners and the steps along its edges, as the code keeps them
+abbrev pub frame_of : ℕ → Frame
+frame_of n = record { n = n; corner = corners n; step = strides n }
 
 -- the place of column q of line p
 abbrev pub place_on : Lane → ℕ → ℕ → ℕ
@@ -86,16 +79,15 @@ cycled t i j k e l =
     e (prior t (get_or l k 0) (get_or l j 0) (get_or l i 0))
 
 -- the first q places of line p
-unfoldable pub line_cycled : ℕ → ℕ → Lane → Lane → Lane → Lane → ℕ → List ℕ → List ℕ
-line_cycled t p a b c d zero l = l
-line_cycled t p a b c d (suc q) l =
-    cycled t (place_on a p q) (place_on b p q) (place_on c p q) (place_on d p q) (line_cycled t p a b c d q l)
+unfoldable pub line_cycled : ℕ → ℕ → Ring → ℕ → List ℕ → List ℕ
+line_cycled t p r zero l = l
+line_cycled t p r (suc q) l = cycled t (place_on r.a p q) (place_on r.b p q) (place_on r.c p q) (place_on r.d p q) (line_cycled t p r q l)
 
 -- `lines` lines from `first` on, m places of each
 unfoldable pub ring_turned : ℕ → ℕ → ℕ → ℕ → ℕ → ℕ → List ℕ → List ℕ
 ring_turned n t ring m first zero l = l
 ring_turned n t ring m first (suc p) l =
-    line_cycled t (first + p) (ring_lane n ring 0) (ring_lane n ring 1) (ring_lane n ring 2) (ring_lane n ring 3) m (ring_turned n t ring m first p l)
+    line_cycled t (first + p) (ring_of n ring) m (ring_turned n t ring m first p l)
 
 -- a whole face in quarters, where it is to turn
 abbrev pub face_turned : ℕ → ℕ → ℕ → Bool → List ℕ → List ℕ
@@ -113,17 +105,17 @@ pub record PlaceFits (a : Lane) (p q long : ℕ) : Type 0 where
   pub spot : Spot a p q
   pub within : place_on a p q < long
 
--- what the same place of four lanes asks
-pub record CellFits (a b c d : Lane) (p q long : ℕ) : Type 0 where
-  pub at_a : PlaceFits a p q long
-  pub at_b : PlaceFits b p q long
-  pub at_c : PlaceFits c p q long
-  pub at_d : PlaceFits d p q long
+-- what the same place of the four lanes asks
+pub record CellFits (r : Ring) (p q long : ℕ) : Type 0 where
+  pub at_a : PlaceFits r.a p q long
+  pub at_b : PlaceFits r.b p q long
+  pub at_c : PlaceFits r.c p q long
+  pub at_d : PlaceFits r.d p q long
 
--- what a line of four lanes asks
-pub record LineFits (p count : ℕ) (a b c d : Lane) (long : ℕ) : Type 0 where
+-- what a line of a ring asks
+pub record LineFits (p count : ℕ) (r : Ring) (long : ℕ) : Type 0 where
   pub few : count ≤ 104
-  pub cells : (q : ℕ) → q < count → CellFits a b c d p q long
+  pub cells : (q : ℕ) → q < count → CellFits r p q long
 
 -- what a ring asks
 pub record RingFits (n ring first lines count long : ℕ) : Type 0 where

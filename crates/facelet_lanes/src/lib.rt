@@ -1,24 +1,37 @@
-// Rings of lanes: how the stickers that a move takes lie, so that it can turn them in place. facelet_letters and facelet_ids turn them.
+// Rings of lanes: how the stickers that a move takes lie, so that it can turn them in place. facelet_moves turns them.
 #![tactic(auto)]
 
-ghost use Rattle.std.specs.Prelude.{◌≡◌, ◌/◌, ◌%◌, ◌<◌};
+ghost use Rattle.std.specs.Prelude.{◌≡◌, ◌+◌, ◌*◌, ◌<◌, get_or};
 ghost use Rattle.generic_cube.specs.Inner.{Sized};
 ghost use Rattle.sticker.specs.Place.{num_of};
 ghost use Rattle.geometric_moves.specs.Turn.{kind_face};
-ghost use Rattle.facelet_lanes.specs.InnerLanes.{ring_word, lane_of, ring_of, place_on, Spot, Framed};
+ghost use Rattle.facelet_lanes.specs.InnerLanes.{ring_faces, ring_edges, frame_of, lane_of, ring_lane, ring_of, place_on, Spot};
 
-// The number of the face as which each kind turns.
-const KINDS: [u8; 15] = [0, 4, 2, 1, 5, 3, 0, 4, 2, 1, 5, 3, 1, 0, 2];
-
-// Three rings for each face, four lanes to a ring: the sides, the face, the face opposite. A lane starts at an edge of a face: 0 is the
-// first row, 1 the last column, 2 the last row, 3 the first column. It is held in five bits, as 4 * face + edge, the first lane lowest.
-const RINGS: [u32; 18] = [
-    672004, 100384, 440812, 308961, 235684, 576112, 569570, 370984, 711412, 346822, 506284, 34912,
-    703843, 641584, 170212, 178784, 776884, 305512,
+// Three rings for each face, four lanes to a ring: the sides, the face, the face opposite. A lane starts at an edge of a face: here are the
+// number of the face, and 0 for its first row, 1 for the last column, 2 for the last row, 3 for the first column.
+static RINGS: [[(usize, usize); 4]; 18] = [
+    [(1, 0), (2, 0), (4, 0), (5, 0)],
+    [(0, 0), (0, 1), (0, 2), (0, 3)],
+    [(3, 0), (3, 3), (3, 2), (3, 1)],
+    [(0, 1), (5, 3), (3, 1), (2, 1)],
+    [(1, 0), (1, 1), (1, 2), (1, 3)],
+    [(4, 0), (4, 3), (4, 2), (4, 1)],
+    [(0, 2), (1, 3), (3, 0), (4, 1)],
+    [(2, 0), (2, 1), (2, 2), (2, 3)],
+    [(5, 0), (5, 3), (5, 2), (5, 1)],
+    [(1, 2), (5, 2), (4, 2), (2, 2)],
+    [(3, 0), (3, 1), (3, 2), (3, 3)],
+    [(0, 0), (0, 3), (0, 2), (0, 1)],
+    [(0, 3), (2, 3), (3, 3), (5, 1)],
+    [(4, 0), (4, 1), (4, 2), (4, 3)],
+    [(1, 0), (1, 3), (1, 2), (1, 1)],
+    [(0, 0), (4, 3), (3, 2), (1, 1)],
+    [(5, 0), (5, 1), (5, 2), (5, 3)],
+    [(2, 0), (2, 3), (2, 2), (2, 1)],
 ];
 
 // Places in lines. From a line to the next the place goes up by `over` and down by `under`, along a line up by `along` and down by `behind`.
-#[derive(Clone, Copy)]
+#[derive(Clone, Copy, Debug, PartialEq, Eq)]
 pub struct Lane {
     pub start: usize,
     pub over: usize,
@@ -28,7 +41,7 @@ pub struct Lane {
 }
 
 // The four lanes of a ring, each a quarter turn from the one before.
-#[derive(Clone, Copy)]
+#[derive(Clone, Copy, Debug, PartialEq, Eq)]
 pub struct Ring {
     pub a: Lane,
     pub b: Lane,
@@ -42,62 +55,81 @@ impl Lane {
         requires { Spot self p q }
         ensures { result ≡ place_on self p q }
     {
-        let start = self.start;
-        let over = self.over;
-        let along = self.along;
-        let under = self.under;
-        let behind = self.behind;
-        start + p * over + q * along - (p * under + q * behind)
+        self.start + p * self.over + q * self.along - (p * self.under + q * self.behind)
     }
 }
 
+// The face and the edge at which lane k of a ring starts.
+fn edge_at(ring: usize, k: usize) -> (usize, usize)
+    requires { (ring < 18) × (k < 4) }
+    ensures face { (result.0 ≡ get_or ring_faces (4 * ring + k) 0) × (result.0 < 6) }
+    ensures edge { (result.1 ≡ get_or ring_edges (4 * ring + k) 0) × (result.1 < 4) }
+{
+    RINGS[ring][k]
+}
+
+// The corners of a face and the steps along its edges, written down once for the four lanes of a ring.
+#[derive(Clone, Copy)]
+struct Frame {
+    n: usize,
+    corner: [usize; 4],
+    step: [usize; 7],
+}
+
+impl Frame {
+    fn new(n: usize) -> Frame
+        requires { Sized n }
+        ensures { result ≡ frame_of n }
+    {
+        Frame {
+            n,
+            corner: [0, n - 1, n * n - 1, n * n - n],
+            step: [1, n, 0, 0, 1, n, 0],
+        }
+    }
+
+    // The lane that starts at an edge of a face.
+    fn lane(&self, face: usize, edge: usize) -> Lane
+        requires { Sized self.now.n × (face < 6) × (edge < 4) × (self.now ≡ frame_of self.now.n) }
+        ensures { result ≡ lane_of self.now.n face edge }
+    {
+        Lane {
+            start: face * self.n * self.n + self.corner[edge],
+            along: self.step[edge],
+            over: self.step[edge + 1],
+            behind: self.step[edge + 2],
+            under: self.step[edge + 3],
+        }
+    }
+
+    // Lane k of a ring.
+    fn ring_lane(&self, ring: usize, k: usize) -> Lane
+        requires { Sized self.now.n × (ring < 18) × (k < 4) × (self.now ≡ frame_of self.now.n) }
+        ensures { result ≡ ring_lane self.now.n ring k }
+    {
+        let (face, edge) = edge_at(ring, k);
+        self.lane(face, edge)
+    }
+}
+
+// The number of the face as which a kind turns.
 pub fn face_number(kind: usize) -> usize
     requires { kind < 15 }
     ensures { result ≡ num_of (kind_face kind) }
 {
-    KINDS[kind] as usize
+    usize::from(geometric_moves::kind_face(kind))
 }
 
-// The lanes of a ring in one number.
-fn ring_word(ring: usize) -> usize
-    requires { ring < 18 }
-    ensures { result ≡ ring_word ring }
-{
-    RINGS[ring] as usize
-}
-
-// The lowest lane of a word of lanes, from the corners of a face and the steps along its edges.
-fn lane_of(n: usize, word: usize, corner: &[usize], step: &[usize]) -> Lane
-    requires { Sized n × (word / 4 % 8 < 6) × Framed n corner.now step.now }
-    ensures { result ≡ lane_of n (word / 4 % 8) (word % 4) }
-{
-    let face = word / 4 % 8;
-    let edge = word % 4;
-    let start = face * n * n + corner[edge];
-    let along = step[edge];
-    let over = step[edge + 1];
-    let behind = step[edge + 2];
-    let under = step[edge + 3];
-    Lane {
-        start,
-        over,
-        along,
-        under,
-        behind,
-    }
-}
-
-// The lanes of a ring. The corners and the steps of its size are written down once for the four.
+// The lanes of a ring.
 pub fn ring_of(n: usize, ring: usize) -> Ring
     requires { Sized n × (ring < 18) }
     ensures { result ≡ ring_of n ring }
 {
-    let word = ring_word(ring);
-    let corner = [0, n - 1, n * n - 1, n * n - n];
-    let step = [1, n, 0, 0, 1, n, 0];
-    let a = lane_of(n, word, &corner, &step);
-    let b = lane_of(n, word / 32, &corner, &step);
-    let c = lane_of(n, word / 1024, &corner, &step);
-    let d = lane_of(n, word / 32768, &corner, &step);
-    Ring { a, b, c, d }
+    let frame = Frame::new(n);
+    Ring {
+        a: frame.ring_lane(ring, 0),
+        b: frame.ring_lane(ring, 1),
+        c: frame.ring_lane(ring, 2),
+        d: frame.ring_lane(ring, 3),
+    }
 }

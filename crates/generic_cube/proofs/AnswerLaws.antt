@@ -1,15 +1,17 @@
 -- Answers and slices: where something is refused, and where nothing is.
 use Prim.Native.Nat.{ℕ}
-use mathlib.Core.Path.{◌≡◌, ◌∙◌}
+use mathlib.Core.Path.{◌≡◌, sym, ◌∙◌}
+use mathlib.Core.Bool.{true}
 use mathlib.Core.List.{List}
 use lib.Dec.{eqb}
 use borrow.Author.Tests.{ne_eqb, eqb-true, eqb-false}
 use native.Mathlib.Omega.{arith}
 use Rattle.std.specs.Prelude.{Result, Ok, Err}
 use Rattle.ground.specs.declared.refusals.Refusal.{Refusal}
-use Rattle.ground.specs.Refusals.{refusal}
+use Rattle.ground.specs.Refusals.{Row, lowest, refusal}
+use Rattle.ground.proofs.RefusalLaws.{listed_rows, lowest_listed}
 use Rattle.ground.proofs.ChoiceLaws.{bool_cases}
-use Rattle.generic_cube.specs.Answers.{answer, done, DoneWith, AnswerWith}
+use Rattle.generic_cube.specs.Answers.{answer, done, answer_no, DoneWith, AnswerWith}
 
 -- what an answer says of the number that decides it
 module _ {A : Type 0} (k : ℕ) (value : A) where
@@ -45,3 +47,10 @@ module _ {good old : List ℕ} where
 
   pub answer_value_lem : {k count count' : ℕ} {new : List ℕ} → k ≡ 0 → count' ≡ count → new ≡ good → AnswerWith k count good old new (Ok count')
   answer_value_lem e c d = record { answered = rw (e, c); left = d ∙ rw e }
+
+-- the number of an answer is the one that its rows give
+pub number_told : {A : Type 0} (rows : List Row) (value : A) → listed_rows rows ≡ true → answer_no (answer (lowest rows) value) ≡ lowest rows
+number_told rows value l =
+    bool_cases (eqb (lowest rows) 0)
+    (λ t. rw t (sym (eqb-true (lowest rows) 0 t)))
+    (λ t. rw t (lowest_listed rows l (eqb-false (lowest rows) 0 t)))

@@ -14,6 +14,9 @@ const FACES: [usize; 6] = [0, 3, 2, 1, 5, 4];
 
 const WIDES: [usize; 6] = [6, 7, 8, 9, 10, 11];
 
+// Each `put_` writes from `start` on into the slice that was lent, and gives the place behind: memory is fixed, and a struct of slice and place would
+// need a clause for what becomes of the slice.
+
 // A kind and turn in `count` widths from `first` on.
 fn put_widths(
     out: &mut [MoveCode],

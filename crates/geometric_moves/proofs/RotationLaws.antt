@@ -62,6 +62,10 @@ pub turn_two : (r : Rotation) → turn_of 2 r ≡ then_rot r r
 unfolding turn_of
 turn_two r = ap (λ s. then_rot s r) (identity_then r)
 
+pub turn_three : (r : Rotation) (t : ℕ) → t ≡ 3 → turn_of t r ≡ then_rot (then_rot r r) r
+unfolding turn_of
+turn_three r t e = ap (λ k. turn_of k r) e ∙ ap (λ s. then_rot s r) (turn_two r)
+
 -- turns add up
 pub turn_add : (a b : ℕ) (r : Rotation) → turn_of (a + b) r ≡ then_rot (turn_of a r) (turn_of b r)
 unfolding turn_of

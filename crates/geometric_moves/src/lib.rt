@@ -1,20 +1,39 @@
 // Rotations of the cube, and the face and the layers of a move: geometric_cube/moves.rs. What a move does to a place is a definition
-// (specs/Turn.antt); the code that moves cubes is in facelet_letters and facelet_ids.
+// (specs/Turn.antt); the code that moves cubes is in facelet_moves.
 #![tactic(auto)]
 
 ghost use Rattle.std.specs.Prelude.{◌≡◌, ◌<◌, ◌≤◌};
-ghost use Rattle.geometric_moves.specs.Turn.{opposite, facing, same_face, whither, then_rot, inverse_rot, turn_of, quarter_of, letter_face, whole_face, kind_face, layers_of};
+ghost use Rattle.geometric_moves.specs.Turn.{opposite, facing, whither, then_rot, inverse_rot, turn_of, quarter_of, kind_face, layers_of};
 
 use generic_cube::Move;
 use sticker::Face;
 
 // A rotation of the whole cube: for each axis, the half axis whose coordinate becomes the new one.
-#[derive(Clone, Copy)]
+#[derive(Clone, Copy, Debug, PartialEq, Eq)]
 pub struct Rotation {
     pub x: Face,
     pub y: Face,
     pub z: Face,
 }
+
+// The face as which each kind turns: the letters U L F R B D, the wide ones, and X, Y, Z, which turn as R, U, F.
+static KIND_FACES: [Face; 15] = [
+    Face::U,
+    Face::L,
+    Face::F,
+    Face::R,
+    Face::B,
+    Face::D,
+    Face::U,
+    Face::L,
+    Face::F,
+    Face::R,
+    Face::B,
+    Face::D,
+    Face::R,
+    Face::U,
+    Face::F,
+];
 
 pub fn opposite_of(f: Face) -> Face
     ensures { result ≡ opposite f }
@@ -27,14 +46,6 @@ pub fn opposite_of(f: Face) -> Face
         Face::L => Face::R,
         Face::B => Face::F,
     }
-}
-
-fn is_same_face(f: Face, g: Face) -> bool
-    ensures { result ≡ same_face f g }
-{
-    let a = sticker::number(f);
-    let b = sticker::number(g);
-    a == b
 }
 
 impl Rotation {
@@ -66,16 +77,13 @@ impl Rotation {
     pub fn facing_of(self, f: Face) -> Face
         ensures { result ≡ facing self f }
     {
-        let x = self.x;
-        let y = self.y;
-        let z = self.z;
         match f {
-            Face::U => y,
-            Face::R => x,
-            Face::F => z,
-            Face::D => opposite_of(y),
-            Face::L => opposite_of(x),
-            Face::B => opposite_of(z),
+            Face::U => self.y,
+            Face::R => self.x,
+            Face::F => self.z,
+            Face::D => opposite_of(self.y),
+            Face::L => opposite_of(self.x),
+            Face::B => opposite_of(self.z),
         }
     }
 
@@ -83,13 +91,11 @@ impl Rotation {
     pub fn and_then(self, s: Rotation) -> Rotation
         ensures { result ≡ then_rot self s }
     {
-        let x = s.x;
-        let y = s.y;
-        let z = s.z;
-        let a = self.facing_of(x);
-        let b = self.facing_of(y);
-        let c = self.facing_of(z);
-        Rotation { x: a, y: b, z: c }
+        Rotation {
+            x: self.facing_of(s.x),
+            y: self.facing_of(s.y),
+            z: self.facing_of(s.z),
+        }
     }
 
     // The half turn of a quarter.
@@ -100,42 +106,40 @@ impl Rotation {
     }
 
     // The half axis to which this rotation brings f.
+    #[tactic(auto, unfolding(crate::specs::Turn::whither, crate::specs::Turn::same_face))]
     fn whither_of(self, f: Face) -> Face
         ensures { result ≡ whither self f }
     {
-        let x = self.x;
-        let y = self.y;
-        let z = self.z;
-        if is_same_face(x, f) {
-            return Face::R;
-        }
-        if is_same_face(y, f) {
-            return Face::U;
-        }
-        if is_same_face(z, f) {
-            return Face::F;
-        }
         let g = opposite_of(f);
-        if is_same_face(x, g) {
-            return Face::L;
+        if self.x == f {
+            Face::R
+        } else if self.y == f {
+            Face::U
+        } else if self.z == f {
+            Face::F
+        } else if self.x == g {
+            Face::L
+        } else if self.y == g {
+            Face::D
+        } else {
+            Face::B
         }
-        if is_same_face(y, g) {
-            return Face::D;
-        }
-        Face::B
     }
 
     // The rotation that undoes this one.
+    #[tactic(auto, unfolding(crate::specs::Turn::inverse_rot))]
     pub fn inverse(self) -> Rotation
         ensures { result ≡ inverse_rot self }
     {
-        let x = self.whither_of(Face::R);
-        let y = self.whither_of(Face::U);
-        let z = self.whither_of(Face::F);
-        Rotation { x, y, z }
+        Rotation {
+            x: self.whither_of(Face::R),
+            y: self.whither_of(Face::U),
+            z: self.whither_of(Face::F),
+        }
     }
 
     // The quarter turn of a face: U, R, F turn as Y, X, Z; D, L, B as their inverses.
+    #[tactic(auto, unfolding(crate::specs::Turn::quarter_of))]
     pub fn quarter(f: Face) -> Rotation
         ensures { result ≡ quarter_of f }
     {
@@ -150,6 +154,7 @@ impl Rotation {
     }
 
     // This quarter turn t times: 2 is a half turn, 3 is a half turn and a quarter.
+    #[tactic(auto, using(crate::proofs::RotationLaws::turn_two, crate::proofs::RotationLaws::turn_three), unfolding(crate::specs::Turn::turn_of))]
     pub fn times(self, t: usize) -> Rotation
         requires { t ≤ 3 }
         ensures { result ≡ turn_of t self }
@@ -158,60 +163,28 @@ impl Rotation {
             0 => Rotation::IDENTITY,
             1 => self,
             2 => self.half(),
-            _ => {
-                let h = self.half();
-                h.and_then(self)
-            }
+            _ => self.half().and_then(self),
         }
     }
 }
 
-fn letter_face(k: usize) -> Face
-    requires { k < 6 }
-    ensures { result ≡ letter_face k }
-{
-    match k {
-        0 => Face::U,
-        1 => Face::L,
-        2 => Face::F,
-        3 => Face::R,
-        4 => Face::B,
-        _ => Face::D,
-    }
-}
-
-fn whole_face(k: usize) -> Face
-    requires { k < 3 }
-    ensures { result ≡ whole_face k }
-{
-    match k {
-        0 => Face::R,
-        1 => Face::U,
-        _ => Face::F,
-    }
-}
-
 // The face as which a kind turns.
+#[tactic(auto, unfolding(crate::specs::Turn::kind_face))]
 pub fn kind_face(k: usize) -> Face
     requires { k < 15 }
     ensures { result ≡ kind_face k }
 {
-    if k < 12 {
-        return letter_face(k % 6);
-    }
-    whole_face(k - 12)
+    KIND_FACES[k]
 }
 
 // How many layers a move has: 1 for a plain letter, all n for X, Y, Z.
+#[tactic(auto, unfolding(crate::specs::Turn::layers_of))]
 pub fn layers_of(n: usize, m: Move) -> usize
     ensures { result ≡ layers_of n m }
 {
-    let kind = m.kind;
-    if kind < 6 {
-        return 1;
+    match m.kind {
+        0..=5 => 1,
+        6..=11 => m.width,
+        _ => n,
     }
-    if kind < 12 {
-        return m.width;
-    }
-    n
 }

@@ -1,10 +1,10 @@
 -- Laws of lists that are given place by place, and of members by place.
-use Prim.Native.Nat.{ℕ, zero, suc, ◌<◌}
+use Prim.Native.Nat.{ℕ, zero, suc, ◌+◌, ◌<◌, ◌≤◌}
 use mathlib.Core.Path.{◌≡◌, refl, ap, sym, ◌∙◌}
 use mathlib.Core.List.{List, [], ◌∷◌, Memᴰ}
 use native.Mathlib.Omega.{arith}
-use lib.ListN.{length, get_or}
-use lib.Seq.{ext_get_or}
+use lib.ListN.{length, get_or, take, drop, length-drop, take-append-drop}
+use lib.Seq.{ext_get_or, length-take-le, take-append-le, drop-append-le}
 use Rattle.ground.specs.Lists.{tabulate}
 
 pub length-tabulate : (m : ℕ) (f : ℕ → ℕ) → length (tabulate m f) ≡ m
@@ -41,3 +41,10 @@ module _ {A : Type 0} where
   member_place d (Memᴰ.head e) = record { at = 0; within = omega arith; is = sym e }
   member_place d (Memᴰ.tail m) =
       let p = member_place d m in record { at = suc p.at; within = omega (arith, p.within); is = p.is }
+
+-- a part of a list that lies in its first s elements
+pub part_front : (l : List ℕ) (j n s : ℕ) → s ≤ length l → j + n ≤ s → take n (drop j l) ≡ take n (drop j (take s l))
+part_front l j n s h g =
+    let head : length (take s l) ≡ s = length-take-le s l h in
+    ap (λ k. take n (drop j k)) (sym (take-append-drop s l)) ∙ ap (take n) (drop-append-le j (take s l) (drop s l) (omega arith))
+    ∙ take-append-le n (drop j (take s l)) (drop s l) (omega (arith, length-drop j (take s l)))

@@ -7,12 +7,29 @@ use mathlib.Core.Logic.{⊎_elim}
 use mathlib.Core.List.Memᴰ
 use mathlib.Core.List.{List, [], ◌∷◌, ◌++◌, Memᴰ}
 use native.Mathlib.Omega.{arith}
-use lib.Dec.{leb}
-use borrow.Author.Tests.{leb-true}
+use lib.Dec.{leb, eqb}
+use borrow.Author.Tests.{leb-true, eqb-true}
 use Rattle.std.specs.Prelude.{Result, Ok, Err}
 use Rattle.std.specs.Result.{IsErrAnd}
 use Rattle.ground.specs.Choice.{pick}
-use Rattle.ground.specs.Refusals.{Row, lowest}
+use Rattle.ground.specs.declared.refusals.Refusal.{Refusal}
+use Rattle.ground.specs.declared.refusals.Refusal.TheVariants.{
+  Size,
+  Length,
+  Code,
+  Width,
+  Room,
+  Bounds,
+  Table,
+  Work,
+  Index,
+  Letter,
+  Digits,
+  Ending,
+  Sign,
+  Level,
+}
+use Rattle.ground.specs.Refusals.{Row, lowest, number_of, refusal, listed}
 use Rattle.ground.proofs.ChoiceLaws.{bool_cases}
 
 -- no row applies
@@ -112,3 +129,65 @@ lowest_least k (r ∷ rows) o x m a =
 pub passed_on : {A E : Type 0} {e : E} (r : Result A E) → IsErrAnd r (λ y. y ≡ e) → r ≡ Err e
 passed_on (Err y) p = ap Err p
 passed_on (Ok x) p = absurd p
+
+-- NUMBERS AND REFUSALS
+pub refusal_back : (r : Refusal) → refusal (number_of r) ≡ r
+refusal_back Size = refl
+refusal_back Length = refl
+refusal_back Code = refl
+refusal_back Width = refl
+refusal_back Room = refl
+refusal_back Bounds = refl
+refusal_back Table = refl
+refusal_back Work = refl
+refusal_back Index = refl
+refusal_back Letter = refl
+refusal_back Digits = refl
+refusal_back Ending = refl
+refusal_back Sign = refl
+refusal_back Level = refl
+
+-- each has its own number, from 1 to 17
+pub number_low : (r : Refusal) → (1 ≤ number_of r) × (number_of r ≤ 17)
+number_low Size = (omega arith, omega arith)
+number_low Length = (omega arith, omega arith)
+number_low Code = (omega arith, omega arith)
+number_low Width = (omega arith, omega arith)
+number_low Room = (omega arith, omega arith)
+number_low Bounds = (omega arith, omega arith)
+number_low Table = (omega arith, omega arith)
+number_low Work = (omega arith, omega arith)
+number_low Index = (omega arith, omega arith)
+number_low Letter = (omega arith, omega arith)
+number_low Digits = (omega arith, omega arith)
+number_low Ending = (omega arith, omega arith)
+number_low Sign = (omega arith, omega arith)
+number_low Level = (omega arith, omega arith)
+
+-- one row of the table, and the rows behind it
+at_row : (k i : ℕ) (c rest r : Refusal) → pick (eqb k i) c rest ≡ r → i ≡ number_of c → (rest ≡ r → k ≡ number_of r) → k ≡ number_of r
+at_row k i c rest r e n f =
+    bool_cases (eqb k i) (λ t. eqb-true k i t ∙ n ∙ ap number_of (rw t at e)) (λ t. f (rw t at e))
+
+-- no other number has a refusal; the last of the table stands for every number that is not in it
+pub number_only : (k : ℕ) (r : Refusal) → refusal k ≡ r → (r ≡ Level → ⊥) → k ≡ number_of r
+number_only k r e h =
+    at_row k 1 Size _ r e refl (λ e. at_row k 2 Length _ r e refl (λ e. at_row k 3 Code _ r e refl (λ e. at_row k 5 Width _ r e refl
+    (λ e. at_row k 6 Room _ r e refl (λ e. at_row k 7 Bounds _ r e refl (λ e. at_row k 8 Table _ r e refl (λ e. at_row k 9 Work _ r e refl
+    (λ e. at_row k 10 Index _ r e refl (λ e. at_row k 12 Letter _ r e refl (λ e. at_row k 13 Digits _ r e refl (λ e. at_row k 14 Ending _ r e refl
+    (λ e. at_row k 16 Sign _ r e refl (λ e. absurd (h (sym e)))))))))))))))
+
+-- rows whose numbers stand in the table: a computed test
+abbrev pub listed_rows : List Row → Bool
+listed_rows [] = true
+listed_rows (r ∷ rows) = pick (listed r.number) (listed_rows rows) false
+
+pub lowest_listed : (rows : List Row) → listed_rows rows ≡ true → (lowest rows ≡ 0 → ⊥) → number_of (refusal (lowest rows)) ≡ lowest rows
+unfolding lowest
+lowest_listed [] l z = absurd (z refl)
+lowest_listed (r ∷ rows) l z =
+    bool_cases (listed r.number)
+    (λ t. bool_cases r.applies
+    (λ u. rw u (eqb-true _ _ t))
+    (λ u. rw u (lowest_listed rows (rw t at l) (rw u at z))))
+    (λ t. absurd (true≢false (sym (rw t at l))))

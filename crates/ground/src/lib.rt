@@ -1,7 +1,6 @@
-// What every crate above stands on: choices, lists given place by place, refusals, and the loops that copy and clear a slice.
+// What every crate above stands on: choices, lists given place by place, refusals, and a slice whose first half is written twice.
 #![tactic(auto)]
 
-pub mod bytes;
 pub mod codes;
-pub mod ids;
 pub mod refusals;
+pub mod slices;

@@ -1,4 +1,3 @@
 pub mod VisitLaws
 pub mod PassesLaws
 pub mod IdaStarLaws
-pub mod Tags

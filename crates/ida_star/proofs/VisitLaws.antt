@@ -10,8 +10,7 @@ use lib.ListN.{length, take, drop, get_or, set, length-append, length-drop, leng
 use lib.Seq.{take-suc, take-length, take-suc-set, take_at, drop_at, take-take, take_all, length-take-le}
 use Rattle.search_theory.specs.Search.{Reply, none, found, first_of, Task, bars, dfs}
 use Rattle.search_theory.proofs.SearchLaws.{bars_snoc, tried, tried_barred, tried_free, first_next, first_here, first_end, at_goal, above, opened}
-use Rattle.ida_star.specs.declared.Outcome.{Outcome}
-use Rattle.ida_star.specs.declared.Outcome.TheVariants.{Found, Nothing}
+use Rattle.std.specs.Prelude.{Option, Some, None}
 use Rattle.ida_star.specs.IdaStar.{outcome_of}
 use Rattle.ida_star.specs.Inner.{next, AnswerTold, VisitTold}
 
@@ -51,16 +50,16 @@ module _ (s : ℕ) (work : List ℕ) (two : s + s ≤ length work) {d : List ℕ
       refl
 
 -- an answer that says a list, and one that does not
-pub told_found {ℓ} : {A : Type ℓ} (reply : Reply) {k : ℕ} → Found k ≡ outcome_of reply → ((q : List ℕ) → reply ≡ found q → length q ≡ k → A) → A
+pub told_found {ℓ} : {A : Type ℓ} (reply : Reply) {k : ℕ} → Some k ≡ outcome_of reply → ((q : List ℕ) → reply ≡ found q → length q ≡ k → A) → A
 told_found none e f = let z : ◌≡◌ {A = ℕ} 0 1 = cc in absurd (omega arith)
 told_found (found q) e f = f q refl cc
 
-pub told_none : (reply : Reply) {r : Outcome} → r ≡ outcome_of reply → ((k : ℕ) → r ≡ Found k → ⊥) → reply ≡ none
+pub told_none : (reply : Reply) {r : Option ℕ} → r ≡ outcome_of reply → ((k : ℕ) → r ≡ Some k → ⊥) → reply ≡ none
 told_none none e h = refl
 told_none (found q) e h = absurd (h (length q) e)
 
-tell_none : {reply : Reply} {path : List ℕ} → reply ≡ none → AnswerTold reply path Nothing
-tell_none {path = path} e = subst (λ r. AnswerTold r path Nothing) (sym e) (record { answered = refl; held = tt })
+tell_none : {reply : Reply} {path : List ℕ} → reply ≡ none → AnswerTold reply path None
+tell_none {path = path} e = subst (λ r. AnswerTold r path None) (sym e) (record { answered = refl; held = tt })
 
 -- the candidates from i on are still to be tried, the moves made stand in the path, and the work area has its own level's cube
 pub record Trying (t : Task) (s left len : ℕ) (path₀ path work₀ work : List ℕ) (i : ℕ) : Type 0 where
@@ -72,16 +71,16 @@ pub record Trying (t : Task) (s left len : ℕ) (path₀ path work₀ work : Lis
   pub rest : dfs t left (take len path₀) (take s work₀) ≡ first_of (tried t (left - 1) (take len path₀) (take s work₀)) (drop i t.candidates)
 
 module _ {t : Task} {s left len : ℕ} {path₀ work₀ : List ℕ} where
-  pub visit_goal : t.number (take s work₀) ≡ 0 → len ≤ length path₀ → VisitTold t s left len path₀ path₀ work₀ work₀ (Found len)
+  pub visit_goal : t.number (take s work₀) ≡ 0 → len ≤ length path₀ → VisitTold t s left len path₀ path₀ work₀ work₀ (Some len)
   visit_goal e h =
       let l : length (take len path₀) ≡ len = length-take-le len path₀ h in
       record {
-        told = subst (λ r. AnswerTold r path₀ (Found len)) (sym (at_goal t left _ _ e)) (record { answered = ap Found (sym l); held = ap (λ k. take k path₀) l });
+        told = subst (λ r. AnswerTold r path₀ (Some len)) (sym (at_goal t left _ _ e)) (record { answered = ap Some (sym l); held = ap (λ k. take k path₀) l });
         made = refl;
         kept = refl;
       }
 
-  pub visit_above : (t.number (take s work₀) ≡ 0 → ⊥) → left < t.number (take s work₀) → VisitTold t s left len path₀ path₀ work₀ work₀ Nothing
+  pub visit_above : (t.number (take s work₀) ≡ 0 → ⊥) → left < t.number (take s work₀) → VisitTold t s left len path₀ path₀ work₀ work₀ None
   visit_above e h = record { told = tell_none (above t left _ _ e h); made = refl; kept = refl }
 
   pub try_start : (t.number (take s work₀) ≡ 0 → ⊥) → t.number (take s work₀) ≤ left → Trying t s left len path₀ path₀ work₀ work₀ 0
@@ -100,7 +99,7 @@ module _ {t : Task} {s left len : ℕ} {path₀ work₀ : List ℕ} where
           rest = g.rest ∙ first_next _ t.candidates i h (tried_barred t (left - 1) _ _ _ (rw g.made at b));
         }
 
-    pub try_end : length t.candidates ≤ i → VisitTold t s left len path₀ path work₀ work Nothing
+    pub try_end : length t.candidates ≤ i → VisitTold t s left len path₀ path work₀ work None
     try_end h = record { told = tell_none (g.rest ∙ first_end _ t.candidates i h); made = g.made; kept = g.front }
 
 -- levels of s bytes: this one, the next, and those below it
@@ -155,7 +154,7 @@ module _ {t : Task} {s left len : ℕ} {path₀ path path₁ work₀ work work�
       ∙ take-suc-set path len (get_or t.candidates i 0) (omega (arith, g.slots)) ∙ ap (λ l. l ++ (get_or t.candidates i 0 ∷ [])) g.made
 
   -- and has come back as part' and path', with the answer r
-  module _ {path₂ path' part' work₂ : List ℕ} {r : Outcome} (free : bars t.barred (take len path) (get_or t.candidates i 0) ≡ false)
+  module _ {path₂ path' part' work₂ : List ℕ} {r : Option ℕ} (free : bars t.barred (take len path) (get_or t.candidates i 0) ≡ false)
       (v : VisitTold t s (left - 1) (len + 1) path₁ path' (take (length work₁ - s) (drop s work₁)) part' r)
       (same-path : length path' ≡ length path₁) (same : length part' ≡ length (take (length work₁ - s) (drop s work₁)))
       (back-path : path₂ ≡ path') (back : work₂ ≡ take s work₁ ++ (part' ++ drop (length work₁ - s) (drop s work₁))) where
@@ -182,7 +181,7 @@ module _ {t : Task} {s left len : ℕ} {path₀ path path₁ work₀ work work�
         ap (take len) back-path ∙ sym (take-take len (len + 1) path' (omega arith)) ∙ ap (take len) (v.made ∙ part_path)
         ∙ take_at (take len path₀) _ len (length-take-le len path₀ (omega arith))
 
-    pub try_next : ((k : ℕ) → r ≡ Found k → ⊥) → Trying t s left len path₀ path₂ work₀ work₂ (i + 1)
+    pub try_next : ((k : ℕ) → r ≡ Some k → ⊥) → Trying t s left len path₀ path₂ work₀ work₂ (i + 1)
     try_next d =
         record {
           most = omega arith;
@@ -193,12 +192,12 @@ module _ {t : Task} {s left len : ℕ} {path₀ path path₁ work₀ work work�
           rest = g.rest ∙ first_next _ t.candidates i here (sym child_below ∙ told_none child v.told.answered d);
         }
 
-    pub try_found : {k : ℕ} → r ≡ Found k → VisitTold t s left len path₀ path₂ work₀ work₂ (Found k)
+    pub try_found : {k : ℕ} → r ≡ Some k → VisitTold t s left len path₀ path₂ work₀ work₂ (Some k)
     try_found {k} d =
         record {
           told = told_found child (sym d ∙ v.told.answered) (λ q e l.
               let is : dfs t left (take len path₀) (take s work₀) ≡ child = g.rest ∙ first_here _ t.candidates i here (sym child_below ∙ e) ∙ sym e in
-              subst (λ x. AnswerTold x path₂ (Found k)) (sym is) (subst (AnswerTold child path₂) d (subst (λ x. AnswerTold child x r) (sym back-path) v.told)));
+              subst (λ x. AnswerTold x path₂ (Some k)) (sym is) (subst (AnswerTold child path₂) d (subst (λ x. AnswerTold child x r) (sym back-path) v.told)));
           made = back_made;
           kept = back-front;
         }

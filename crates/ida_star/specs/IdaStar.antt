@@ -1,16 +1,14 @@
 -- The search of a cube: what `ida_star` refuses, what it answers, and what it leaves in what it was lent.
-use Rattle.std.specs.Prelude.{ℕ, suc, ◌+◌, ◌*◌, ◌≡◌, not, List, [], ◌∷◌, ◌++◌, eqb, ltb, length, drop, replicate}
-use Rattle.ground.specs.Choice.{pick}
+use Rattle.std.specs.Prelude.{ℕ, suc, ◌+◌, ◌*◌, ◌≡◌, not, List, [], ◌∷◌, ◌++◌, eqb, ltb, length, drop, replicate, Option, Some, None, Result, Ok, Err}
 use Rattle.ground.specs.Lists.{over}
 use Rattle.ground.specs.Refusals.{Row, ◌when◌, lowest}
 use Rattle.generic_cube.specs.Sizes.{small, beyond, stickers}
-use Rattle.generic_cube.specs.Answers.{unless}
+use Rattle.ground.specs.declared.refusals.Refusal.{Refusal}
+use Rattle.generic_cube.specs.Answers.{answer, unless}
 use Rattle.generic_cube.specs.Code.{list_rows}
 use Rattle.table.specs.Table.{well_formed}
 use Rattle.search_theory.specs.Search.{Reply, none, found, ida}
 use Rattle.search_theory.specs.CubeSearch.{CubeSearch, task_of}
-use Rattle.ida_star.specs.declared.Outcome.{Outcome}
-use Rattle.ida_star.specs.declared.Outcome.TheVariants.{Found, Nothing, Refused}
 
 -- for any table at all the answer is the source's `dfs` under rising limits
 abbrev pub reply : CubeSearch → Reply
@@ -32,10 +30,10 @@ search_rows q work out =
 unfoldable pub search_refusal : CubeSearch → ℕ → ℕ → ℕ
 search_refusal q work out = lowest (search_rows q work out)
 
--- the answer of a search that is not refused
-abbrev pub outcome_of : Reply → Outcome
-outcome_of none = Nothing
-outcome_of (found p) = Found (length p)
+-- the answer of a search that is not refused: how many moves the list has, if there is one
+abbrev pub outcome_of : Reply → Option ℕ
+outcome_of none = None
+outcome_of (found p) = Some (length p)
 
 -- a found list fills the first slots, the others stay; none changes no output
 abbrev pub output_of : Reply → List ℕ → List ℕ
@@ -44,24 +42,18 @@ output_of (found p) out = over p out
 
 -- the answer, with that refusal or that reply; the first bytes of the work area are zero afterwards, the rest unchanged; a refusal
 -- changes nothing
-pub record Searched (number : ℕ) (reply : Reply) (need : ℕ) (work work' out out' : List ℕ) (r : Outcome) : Type 0 where
-  pub answered : r ≡ pick (eqb number 0) (outcome_of reply) (Refused number)
+pub record Searched (number : ℕ) (reply : Reply) (need : ℕ) (work work' out out' : List ℕ) (r : Result (Option ℕ) Refusal) : Type 0 where
+  pub answered : r ≡ answer number (outcome_of reply)
   pub zeroed : work' ≡ unless number (replicate need 0 ++ drop need work) work
   pub written : out' ≡ unless number (output_of reply out) out
 
 -- what `ida_star` answers, and leaves in its work area and its output
-abbrev pub IdaStarResult : CubeSearch → List ℕ → List ℕ → List ℕ → List ℕ → Outcome → Type 0
+abbrev pub IdaStarResult : CubeSearch → List ℕ → List ℕ → List ℕ → List ℕ → Result (Option ℕ) Refusal → Type 0
 IdaStarResult q work work' out out' r =
     Searched (search_refusal q (length work) (length out)) (reply q) (levels q.n q.limit) work work' out out' r
 
--- the rules' number of each case, 0 where nothing is refused
-abbrev pub outcome_no : Outcome → ℕ
-outcome_no (Found k) = 0
-outcome_no Nothing = 0
-outcome_no (Refused k) = k
-
--- and its value: 0 for none, one more than the count of moves for a list
-abbrev pub outcome_value : Outcome → ℕ
-outcome_value (Found k) = suc k
-outcome_value Nothing = 0
-outcome_value (Refused k) = 0
+-- its value: 0 for none, one more than the count of moves for a list, 0 where something is refused
+abbrev pub outcome_value : Result (Option ℕ) Refusal → ℕ
+outcome_value (Ok (Some k)) = suc k
+outcome_value (Ok None) = 0
+outcome_value (Err r) = 0

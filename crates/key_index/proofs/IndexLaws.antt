@@ -1,99 +1,45 @@
 -- Laws of the index.
 use Prim.Native.Nat.{ℕ, ◌+◌, ◌-◌, ◌%◌, ◌≤◌, ◌<◌}
 use mathlib.Core.Path.{◌≡◌, sym, ap, subst, ◌∙◌}
-use mathlib.Core.Bool.{Bool, true, false, true≢false}
+use mathlib.Core.Bool.{Bool, false, true≢false}
 use mathlib.Core.List.{List}
 use native.Mathlib.Omega.{arith}
 use lib.ListN.{length, get_or, set, length-set, get_or-replicate, get_or-eq_default}
-use lib.Dec.{ltb}
 use lib.Seq.{get_or-set_same, get_or-set_other}
 use borrow.Author.Count.{below_more}
-use borrow.Author.Tests.{ltb-true, ltb-false}
 use Rattle.ground.proofs.ChoiceLaws.{order_cases, less_cases}
 use Rattle.table.specs.Entries.{entry_key, Present}
-use Rattle.table.specs.Inner.{EntryThere}
+use Rattle.std.specs.Prelude.{Some, None, IsTrue, ◌↔◌}
 use Rattle.key_index.specs.declared.Found.{Found}
-use Rattle.key_index.specs.declared.Found.TheVariants.{Here, Gap, Lost, Outside}
+use Rattle.key_index.specs.declared.Found.TheVariants.{Here, Absent, Lost, Outside}
 use Rattle.key_index.specs.declared.Classes.{Classes}
 use Rattle.key_index.specs.InnerIndex.{classes, hash_of, class_of, run_start, OfClasses, Filed, Indexed, Free, Empty}
-use Rattle.key_index.specs.Inner.{Freed, Probed, Met, Passed, Says, Probing, Filing, Sought}
+use Rattle.key_index.specs.Inner.{Probed, Met, Passed, Sought}
 use Rattle.key_index.proofs.WordLaws.{run_fits}
 
--- what is told
-pub told_yes : {A : Type 0} → A → Says A true
-told_yes a = record { yes = λ e. a; no = λ e. absurd (true≢false e) }
-
-pub told_no : {A : Type 0} → (A → ⊥) → Says A false
-told_no f = record { yes = λ e. absurd (true≢false (sym e)); no = λ e. f }
-
--- whether a number is within bounds
-abbrev pub Between : ℕ → ℕ → ℕ → Type 0
-Between low high x = (low ≤ x) × (x < high)
-
-pub within_out : {low high x : ℕ} → x < low → Says (Between low high x) false
-within_out h = told_no (λ p. omega (arith, h, p.0))
-
-pub within_in : {low high x : ℕ} → low ≤ x → Says (Between low high x) (ltb x high)
-within_in {low} {high} {x} h = record { yes = λ e. (h, ltb-true x high e); no = λ e p. omega (arith, ltb-false x high e, p.1) }
-
--- the same told of the class of a key that was hashed
-pub within_told : (k : Classes) (s : List ℕ) {h : ℕ} {r : Bool} → h ≡ hash_of s → Says (Between k.low k.high (h % classes)) r → Says (OfClasses k s) r
+-- what is told of the class of a key that was hashed is told of the key
+pub class_told : (k : Classes) (s : List ℕ) {h : ℕ} {b : Bool} → h ≡ hash_of s → IsTrue b ↔ ((k.low ≤ h % classes) × (h % classes < k.high)) → IsTrue b ↔ OfClasses k s
 unfolding class_of
-within_told k s {r = r} e w = subst (λ (a : ℕ). Says (Between k.low k.high (a % classes)) r) e w
+class_told k s {b = b} e f = subst (λ (a : ℕ). IsTrue b ↔ ((k.low ≤ a % classes) × (a % classes < k.high))) e f
+
+pub class_other : (k : Classes) (s : List ℕ) {h : ℕ} {b : Bool} → h ≡ hash_of s → IsTrue b ↔ ((k.low ≤ h % classes) × (h % classes < k.high)) → b ≡ false → OfClasses k s → ⊥
+class_other k s e f g w = true≢false (sym ((class_told k s e f).1 w) ∙ g)
 
 -- a class is one of so many
 pub class_most : (s : List ℕ) → class_of s < classes
 unfolding class_of
 class_most s = omega arith
 
--- the entry of a taken slot is there
-pub slot_held : {m : ℕ} {t s index : List ℕ} {at : ℕ} → Probing m t s index at → (p : ℕ) → (get_or index p 0 ≡ 0 → ⊥) → EntryThere m t (get_or index p 0 - 1)
-slot_held x p n = record { short = x.whole.short; there = omega (arith, x.within p) }
-
--- fewer entries can be filed too
-pub filing_less : {m count i : ℕ} {t : List ℕ} → Filing m count t → i < count → Filing m (i + 1) t
-filing_less x h =
-    record { reading = record { whole = x.reading.whole; room = omega (arith, x.reading.room) }; few = omega (arith, x.few) }
-
 -- the slots from `at` up to p are taken; and what holds of them goes on by a slot
 abbrev pub Full : List ℕ → ℕ → ℕ → Type 0
 Full index at p = (j : ℕ) → at ≤ j → j < p → get_or index j 0 ≡ 0 → ⊥
-
-pub probe_more : (P : ℕ → Type 0) (at p : ℕ) → ((j : ℕ) → at ≤ j → j < p → P j) → P p → (j : ℕ) → at ≤ j → j < p + 1 → P j
-probe_more P at p f x j g h = below_more (λ (k : ℕ). at ≤ k → P k) p (λ k lt le. f k le lt) (λ le. x) j h g
-
--- another answer is not this one
-pub tags_differ {ℓ} : {A : Type ℓ} → ◌≡◌ {A = ℕ} 0 1 → A
-tags_differ e = absurd (omega arith)
-
--- what a run tells
-pub freed_gap : {index : List ℕ} {at p : ℕ} → Free index at p → Freed index at (Gap p)
-freed_gap {index} {at} f = record { gap = λ q e. subst (Free index at) (cc) f }
-
-pub freed_lost : {index : List ℕ} {at : ℕ} → Freed index at Lost
-freed_lost = record { gap = λ q e. tags_differ (cc) }
-
-module _ {m : ℕ} {t s index : List ℕ} {at : ℕ} where
-  pub probed_here : Met m t s index at → Probed m t s index at Here
-  probed_here w = record { here = λ e. w; gap = λ q e. tags_differ (cc); inside = λ e. tags_differ (cc) }
-
-  pub probed_gap : {p : ℕ} → Free index at p → Passed m t s index at p → Probed m t s index at (Gap p)
-  probed_gap {p} f g =
-      record {
-        here = λ e. tags_differ (cc);
-        gap = λ q e. subst (λ (k : ℕ). Free index at k × Passed m t s index at k) (cc) (f, g);
-        inside = λ e. tags_differ (cc);
-      }
-
-  pub probed_lost : Probed m t s index at Lost
-  probed_lost = record { here = λ e. tags_differ (cc); gap = λ q e. tags_differ (cc); inside = λ e. tags_differ (cc) }
 
 -- the run may be named otherwise
 pub free_at : {index : List ℕ} {a b p : ℕ} → a ≡ b → Free index a p → Free index b p
 free_at e f = rw e at f
 
-pub probed_at : {m : ℕ} {t s index : List ℕ} {a b : ℕ} {r : Found} → a ≡ b → Probed m t s index a r → Probed m t s index b r
-probed_at e p = rw e at p
+pub probed_at : (m : ℕ) (t s index : List ℕ) (r : Found) {a b : ℕ} → a ≡ b → Probed m t s index a r → Probed m t s index b r
+probed_at m t s index r e p = rw e at p
 
 module _ {m count : ℕ} {t index : List ℕ} {k : Classes} (x : Indexed m count t index k) where
   -- an empty slot of a run is a slot of the index
@@ -174,42 +120,11 @@ module _ {m count : ℕ} {t index : List ℕ} {k : Classes} (t' s : List ℕ) (p
             (λ w. rw new put_new);
       }
 
--- none is in an empty index
-pub index_none : {m : ℕ} {t index : List ℕ} {k : Classes} → Empty index → Indexed m 0 t index k
-index_none {index = index} x =
-    record {
-      some = x.some;
-      few = x.few;
-      within = λ j.
-          less_cases j (length index)
-          (λ h. omega (arith, ap (λ (l : List ℕ). get_or l j 0) x.clear ∙ get_or-replicate (length index) j 0 0 h))
-          (λ h. omega (arith, get_or-eq_default index 0 {n = j} h));
-      kept = λ i lt w. absurd (omega arith);
-    }
-
--- what comes of looking a key up
-module _ {m count : ℕ} {t s index : List ℕ} {k : Classes} where
-  pub sought-outside : (OfClasses k s → ⊥) → Sought m count t s index k Outside
-  sought-outside f = record { here = λ e. tags_differ (cc); gap = λ p e. tags_differ (cc); lost = λ e. tags_differ (cc); outside = λ e. f }
-
-  pub sought_here : Present (entry_key m t) count s → Sought m count t s index k Here
-  sought_here f = record { here = λ e. f; gap = λ p e. tags_differ (cc); lost = λ e. tags_differ (cc); outside = λ e. tags_differ (cc) }
-
-  pub sought_plain : k.plain ≡ true → (Present (entry_key m t) count s → ⊥) → Sought m count t s index k (Gap 0)
-  sought_plain e f =
-      record {
-        here = λ e. tags_differ (cc);
-        gap = λ p q. (f, λ n. absurd (true≢false (sym e ∙ n)));
-        lost = λ e. tags_differ (cc);
-        outside = λ e. tags_differ (cc);
-      }
-
-  pub sought_probed : {r : Found} → k.plain ≡ false → Indexed m count t index k → OfClasses k s
-      → Probed m t s index (run_start (length index) s) r → Sought m count t s index k r
-  sought_probed {r} e x w p =
-      record {
-        here = λ d. met_present x (p.here d);
-        gap = λ q d. let y = p.gap q d in (absent x w y.0 y.1, λ n. y.0);
-        lost = λ d. e;
-        outside = λ d. absurd (p.inside d);
-      }
+-- what comes of probing the run of a key
+pub sought_probed : {m count : ℕ} {t index : List ℕ} {k : Classes} (s : List ℕ) (r : Found) → k.plain ≡ false → Indexed m count t index k → OfClasses k s
+    → Probed m t s index (run_start (length index) s) r → Sought m count t s index k r
+sought_probed s Here e x w p = met_present x p
+sought_probed s (Absent None) e x w p = absurd p
+sought_probed s (Absent (Some q)) e x w p = (absent x w p.0 p.1, e, p.0)
+sought_probed s Lost e x w p = e
+sought_probed s Outside e x w p = absurd p

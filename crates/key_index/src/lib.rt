@@ -2,12 +2,12 @@
 // whether a key stands among entries that are in no order.
 #![tactic(auto)]
 
-ghost use Rattle.std.specs.Prelude.{◌≡◌, true, ◌+◌, ◌%◌, ◌≤◌, ◌<◌, length, replicate};
+ghost use Rattle.std.specs.Prelude.{◌≡◌, ◌+◌, ◌≤◌, ◌<◌, ◌↔◌, length, IsTrue, OnOk, IfSome};
 ghost use Rattle.table.specs.Entries.{entry_key, Present};
-ghost use Rattle.key_index.specs.InnerIndex.{run_length, mixed, hash_of, run_start_of, Indexed, Empty};
-ghost use Rattle.key_index.specs.Inner.{Says, Freed, Probing, Probed, Scanning, Filing, KeyAsked, Sought};
+ghost use Rattle.key_index.specs.InnerIndex.{run_length, mixed, hash_of, run_start_of, Indexed, Empty, Free};
+ghost use Rattle.key_index.specs.Inner.{Probing, Probed, Scanning, Filing, KeyAsked, Sought};
 
-use table::Order;
+use table::Entries;
 
 // How many classes the keys fall into.
 pub const CLASSES: usize = 1024;
@@ -16,33 +16,36 @@ pub const CLASSES: usize = 1024;
 const RUN: usize = 64;
 
 // The classes of keys that an index holds, from `low` up to `high`; or, plainly, that there is no index and the entries are walked.
-#[derive(Clone, Copy)]
+// `plain` is no mark on the two bounds, which hold either way, so an enum of two structs would say no more.
+#[derive(Clone, Copy, Debug, PartialEq, Eq)]
 pub struct Classes {
     pub low: usize,
     pub high: usize,
     pub plain: bool,
 }
 
-// What is found of a key: it is an entry's, or this is the first empty slot of its run, or the run is full; or it is of another class.
-#[derive(Clone, Copy)]
+impl Classes {
+    // Whether a class is one of them.
+    fn contains(self, class: usize) -> bool
+        ensures { IsTrue result ↔ ((self.low ≤ class) × (class < self.high)) }
+    {
+        self.low <= class && class < self.high
+    }
+}
+
+// What is found of a key: it is an entry's; or it is not, and this is the first empty slot of its run, unless there is no index; or the
+// run is full; or it is of another class.
+#[derive(Clone, Copy, Debug, PartialEq, Eq)]
 pub enum Found {
     Here,
-    Gap(usize),
+    Absent(Option<usize>),
     Lost,
     Outside,
 }
 
-// Whether two keys are the same.
-pub fn same(a: &[u8], b: &[u8]) -> bool
-    requires { (length a.now ≡ length b.now) × (length a.now % 6 ≡ 0) }
-    ensures { Says (a.now ≡ b.now) result }
-{
-    match table::compare(a, b) {
-        Order::Less => false,
-        Order::Same => true,
-        Order::More => false,
-    }
-}
+// A run of the index is full.
+#[derive(Clone, Copy, Debug, PartialEq, Eq)]
+pub struct RunFull;
 
 fn mix(h: usize, x: usize) -> usize
     requires { (h < 4294967296) × (x < 281474976710656) }
@@ -54,12 +57,9 @@ fn mix(h: usize, x: usize) -> usize
 pub fn hash(key: &[u8]) -> usize
     ensures { (result ≡ hash_of key.now) × (result < 4294967296) }
 {
-    let parts = key.len() / 6;
-    let mut h: usize = 0;
-    let mut k = 0;
-    while k < parts {
+    let mut h = 0;
+    for k in 0..key.len() / 6 {
         h = mix(h, table::word(key, 6 * k));
-        k += 1;
     }
     h
 }
@@ -73,129 +73,92 @@ fn place(h: usize, slots: usize) -> usize
 }
 
 // Whether a key stands among the first `count`, walking from the front.
-fn scan(table: &[u8], m: usize, count: usize, key: &[u8]) -> bool
-    requires { Scanning m count table.now key.now }
-    ensures { Says (Present (entry_key m table.now) count key.now) result }
+fn scan(entries: Entries, count: usize, key: &[u8]) -> bool
+    requires { Scanning entries.m count entries.bytes.now key.now }
+    ensures { IsTrue result ↔ Present (entry_key entries.entry.m entries.entry.bytes.now) count key.now }
 {
-    let mut i = 0;
-    while i < count {
-        if same(table::key_at(table, m, i), key) {
+    for i in 0..count {
+        if entries.has_key(i, key) {
             return true;
         }
-        i += 1;
     }
     false
 }
 
 // Looks a key up in the run that begins at a slot.
-fn probe(table: &[u8], m: usize, key: &[u8], index: &[u32], at: usize) -> Found
-    requires { Probing m table.now key.now index.now at }
-    ensures { Probed m table.now key.now index.now at result }
+fn probe(entries: Entries, key: &[u8], index: &[u32], at: usize) -> Found
+    requires { Probing entries.m entries.bytes.now key.now index.now at }
+    ensures { Probed entries.entry.m entries.entry.bytes.now key.now index.now at result }
 {
-    let end = at + RUN;
-    let mut p = at;
-    while p < end {
+    for p in at..at + RUN {
         let v = index[p] as usize;
         if v == 0 {
-            return Found::Gap(p);
+            return Found::Absent(Some(p));
         }
-        if same(table::key_at(table, m, v - 1), key) {
+        if entries.has_key(v - 1, key) {
             return Found::Here;
         }
-        p += 1;
     }
     Found::Lost
 }
 
 // The first empty slot of that run.
-fn free(index: &[u32], at: usize) -> Found
+fn free(index: &[u32], at: usize) -> Option<usize>
     requires { at + run_length ≤ length index.now }
-    ensures { Freed index.now at result }
+    ensures { IfSome result (Free index.now at) }
 {
-    let end = at + RUN;
-    let mut p = at;
-    while p < end {
+    for p in at..at + RUN {
         if index[p] == 0 {
-            return Found::Gap(p);
+            return Some(p);
         }
-        p += 1;
     }
-    Found::Lost
+    None
 }
 
-// Empties every slot.
-pub fn clear(index: &mut [u32])
-    ensures { index.new ≡ replicate (length index.old) 0 }
+// Files entry i after those before it.
+fn file_one(entries: Entries, i: usize, index: &mut [u32], classes: Classes) -> Result<(), RunFull>
+    requires { Filing entries.m (i + 1) entries.bytes.now × Indexed entries.m i entries.bytes.now index.old classes }
+    ensures { OnOk result (Indexed entries.entry.m (i + 1) entries.entry.bytes.now index.new classes) }
 {
-    let mut j: usize = 0;
-    while j < index.len() {
-        index[j] = 0;
-        j += 1;
+    let h = hash(entries.key(i));
+    if classes.contains(h % CLASSES) {
+        let p = free(&index[..], place(h, index.len())).ok_or(RunFull)?;
+        index[p] = (i + 1) as u32;
     }
+    Ok(())
 }
 
-fn is_within(class: usize, classes: Classes) -> bool
-    ensures { Says ((classes.low ≤ class) × (class < classes.high)) result }
+// Files the first `count` entries of those classes in an empty index.
+pub fn file(
+    entries: Entries,
+    count: usize,
+    index: &mut [u32],
+    classes: Classes,
+) -> Result<(), RunFull>
+    requires { Filing entries.m count entries.bytes.now × Empty index.old }
+    ensures { OnOk result (Indexed entries.entry.m count entries.entry.bytes.now index.new classes) }
 {
-    if class < classes.low {
-        return false;
+    for i in 0..count {
+        file_one(entries, i, index, classes)?;
     }
-    class < classes.high
-}
-
-// Files entry i after those before it, unless its run is full.
-fn file_one(table: &[u8], m: usize, i: usize, index: &mut [u32], classes: Classes) -> bool
-    requires { Filing m (i + 1) table.now × Indexed m i table.now index.old classes }
-    ensures { result ≡ true → Indexed m (i + 1) table.now index.new classes }
-{
-    let h = hash(table::key_at(table, m, i));
-    if !is_within(h % CLASSES, classes) {
-        return true;
-    }
-    let at = place(h, index.len());
-    let Found::Gap(p) = free(&index[..], at) else {
-        return false;
-    };
-    index[p] = (i + 1) as u32;
-    true
-}
-
-// Files the first `count` entries of those classes in an empty index, unless a run is full.
-pub fn file(table: &[u8], m: usize, count: usize, index: &mut [u32], classes: Classes) -> bool
-    requires { Filing m count table.now × Empty index.old }
-    ensures { result ≡ true → Indexed m count table.now index.new classes }
-{
-    let mut i = 0;
-    while i < count {
-        if !file_one(table, m, i, index, classes) {
-            return false;
-        }
-        i += 1;
-    }
-    true
+    Ok(())
 }
 
 // Looks a key of those classes up among the first `count`: by the index, or plainly.
-pub fn find(
-    table: &[u8],
-    m: usize,
-    count: usize,
-    key: &[u8],
-    index: &[u32],
-    classes: Classes,
-) -> Found
-    requires { KeyAsked m count table.now key.now index.now classes }
-    ensures { Sought m count table.now key.now index.now classes result }
+pub fn find(entries: Entries, count: usize, key: &[u8], index: &[u32], classes: Classes) -> Found
+    requires { KeyAsked entries.m count entries.bytes.now key.now index.now classes }
+    ensures { Sought entries.entry.m count entries.entry.bytes.now key.now index.now classes result }
 {
     let h = hash(key);
-    if !is_within(h % CLASSES, classes) {
+    if !classes.contains(h % CLASSES) {
         return Found::Outside;
     }
     if classes.plain {
-        if scan(table, m, count, key) {
-            return Found::Here;
-        }
-        return Found::Gap(0);
+        return if scan(entries, count, key) {
+            Found::Here
+        } else {
+            Found::Absent(None)
+        };
     }
-    probe(table, m, key, index, place(h, index.len()))
+    probe(entries, key, index, place(h, index.len()))
 }

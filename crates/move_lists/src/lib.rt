@@ -25,7 +25,7 @@ fn check_same(n: usize, list: &[MoveCode], room: usize) -> Result<(), Refusal>
     Ok(())
 }
 
-// One more code on a stack in which nothing joins, the first k of `out`.
+// One more code on a stack in which nothing joins, the first k of `out`: the stack stands in the slice that was lent, as memory is fixed.
 fn push(out: &mut [MoveCode], k: usize, code: MoveCode) -> usize
     requires { Pushable out.old k code }
     ensures { Pushed out.old k code out.new result }

@@ -14,15 +14,12 @@ use Rattle.table.specs.Table.{entry_count}
 use Rattle.table.proofs.TableLaws.{fits}
 use Rattle.table.proofs.EntriesLaws.{entry_key_lem, entry_number_lem, entry_front}
 use Rattle.search_theory.specs.Levels.{Least}
-use Rattle.key_index.proofs.IndexLaws.{tags_differ}
 use Rattle.entry_sort.specs.InnerSort.{Twin, Sortable, Arranged}
-use Rattle.table_level.specs.declared.Growth.TheVariants.{To, Over}
 use Rattle.table.proofs.EntryListLaws.{room_bytes}
 use Rattle.search_theory.specs.CubeSearch.{moved_by}
 use Rattle.table_theory.specs.Exact.{Start, Exactly}
 use Rattle.table_level.specs.Inner.{Stayed}
-use Rattle.table_climb.specs.Inner.{Stood, Outnumbered}
-use Rattle.pruning_table.specs.Inner.{Finished}
+use Rattle.table_climb.specs.Inner.{Stood}
 
 -- the used part of a slice: it has those entries
 module _ (m count : ℕ) (t : List ℕ) (room : count ≤ entry_count m t) where
@@ -118,10 +115,3 @@ module _ {n : ℕ} {starts moves : List ℕ} {depth : ℕ} {t t₁ : List ℕ} (
             length-append ys (drop (count * (m + 1)) t₁)
             ∙ omega (arith, sorted_long, length-drop (count * (m + 1)) t₁, used_fit m count t₁ s.room, k.long);
       }
-
-module _ {n : ℕ} {starts moves : List ℕ} {depth : ℕ} {t t' : List ℕ} where
-  pub finished_to : {count : ℕ} → Exactly n starts moves depth t t' count → Finished n starts moves depth t t' (To count)
-  finished_to x = record { to = λ c e. subst (Exactly n starts moves depth t t') (cc) x; over = λ e. tags_differ (cc) }
-
-  pub finished_over : Outnumbered n starts moves depth t → Finished n starts moves depth t t' Over
-  finished_over h = record { to = λ c e. tags_differ (cc); over = λ e. h }

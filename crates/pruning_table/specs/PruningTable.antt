@@ -1,9 +1,9 @@
 -- What `pruning_table` refuses, answers and leaves in its buffer.
-use Rattle.std.specs.Prelude.{ℕ, ◌%◌, ◌≡◌, Bool, not, List, [], ◌∷◌, ◌++◌, eqb, ltb, length, replicate}
+use Rattle.std.specs.Prelude.{ℕ, ◌%◌, ◌≡◌, Bool, not, Result, List, [], ◌∷◌, ◌++◌, eqb, ltb, length, replicate}
 use Rattle.ground.specs.Choice.{pick}
 use Rattle.ground.specs.Lists.{over}
 use Rattle.ground.specs.Refusals.{Row, ◌when◌, lowest}
-use Rattle.generic_cube.specs.declared.Answer.{Answer}
+use Rattle.ground.specs.declared.refusals.Refusal.{Refusal}
 use Rattle.generic_cube.specs.Sizes.{small, beyond, stickers}
 use Rattle.generic_cube.specs.Answers.{answer, unless}
 use Rattle.generic_cube.specs.Code.{list_rows}
@@ -37,6 +37,6 @@ pruning_out n starts moves depth table =
     table
 
 -- what `pruning_table` answers and leaves in its buffer
-pub record PruningTableResult (n : ℕ) (starts moves : List ℕ) (depth : ℕ) (table table' : List ℕ) (r : Answer) : Type 0 where
+pub record PruningTableResult (n : ℕ) (starts moves : List ℕ) (depth : ℕ) (table table' : List ℕ) (r : Result ℕ Refusal) : Type 0 where
   pub answered : r ≡ answer (pruning_refusal n starts moves depth table) (length (table_of n starts moves depth))
   pub left : table' ≡ pruning_out n starts moves depth table

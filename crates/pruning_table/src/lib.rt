@@ -3,71 +3,56 @@
 
 ghost use Rattle.std.specs.Prelude.{◌≡◌, length};
 ghost use Rattle.generic_cube.specs.Sizes.{stickers};
-ghost use Rattle.table_climb.specs.Inner.{BuildReady};
+ghost use Rattle.generic_cube.specs.Answers.{done};
 ghost use Rattle.pruning_table.specs.PruningTable.{early_refusal, PruningTableResult};
 ghost use Rattle.pruning_table.specs.Inner.{Finished};
 
-use generic_cube::Answer;
 use ground::codes::MoveCode;
-use table_level::{Growth, Stage};
+use ground::refusals::Refusal;
+use table_level::{Job, Stage};
 
-// The table: what was found, sorted.
-fn build(
-    table: &mut [u8],
-    n: usize,
-    starts: &[u8],
-    moves: &[MoveCode],
-    depth: u8,
-    next: &mut [u8],
-) -> Growth
-    requires { BuildReady n depth moves.now (length next.old) }
-    ensures { Finished n starts.now moves.now depth table.old table.new result }
+// The table: what was found, sorted. Tells how many entries there are, unless they would not fit.
+fn build(table: &mut [u8], job: Job, next: &mut [u8]) -> Option<usize>
+    requires { length next.old ≡ stickers job.n }
+    ensures { Finished job.entry.n job.entry.starts.now job.entry.moves.now job.entry.depth table.old table.new result }
 {
-    let m = 6 * n * n;
+    let m = 6 * job.n * job.n;
     let first = Stage {
         number: 0,
         from: 0,
-        last: starts.len() / m,
+        last: job.starts.len() / m,
         base: 0,
         count: 0,
         large: false,
     };
-    let Growth::To(count) = table_climb::grow(table, n, starts, moves, depth, first, next) else {
-        return Growth::Over;
-    };
-    let used = count * (m + 1);
-    entry_sort::sort(&mut table[..used], m);
-    Growth::To(count)
+    let count = table_climb::grow(table, job, first, next)?;
+    entry_sort::sort(&mut table[..count * (m + 1)], m);
+    Some(count)
 }
 
 // The same, with room for a cube.
-fn fill(table: &mut [u8], n: usize, starts: &[u8], moves: &[MoveCode], depth: usize) -> Growth
-    requires { BuildReady n depth moves.now (stickers n) }
-    ensures { Finished n starts.now moves.now depth table.old table.new result }
+fn fill(table: &mut [u8], job: Job) -> Option<usize>
+    ensures { Finished job.entry.n job.entry.starts.now job.entry.moves.now job.entry.depth table.old table.new result }
 {
-    let m = 6 * n * n;
     let mut next = [0u8; 294];
-    build(table, n, starts, moves, depth as u8, &mut next[..m])
+    build(table, job, &mut next[..6 * job.n * job.n])
 }
 
-// The lowest refusal that comes before building, 0 for none.
-fn early_refusal(n: usize, starts: usize, moves: &[MoveCode], depth: usize) -> u8
-    ensures { result ≡ early_refusal n starts moves.now depth }
+// What is refused before building.
+fn check_early(n: usize, starts: usize, moves: &[MoveCode], depth: usize) -> Result<(), Refusal>
+    ensures { result ≡ done (early_refusal n starts moves.now depth) }
 {
     if !generic_cube::is_small(n) {
-        return 1;
+        return Err(Refusal::Size);
     }
     if starts % (6 * n * n) != 0 {
-        return 2;
+        return Err(Refusal::Length);
     }
-    let number = generic_cube::list_refusal(n, moves);
-    if number != 0 {
-        return number;
-    }
+    generic_cube::check_moves(n, moves)?;
     if generic_cube::is_beyond(moves.len(), 0, depth) {
-        return 7;
+        return Err(Refusal::Bounds);
     }
-    0
+    Ok(())
 }
 
 // The table of the states reachable from the starting cubes by at most `depth` candidates, each with the least such count.
@@ -77,17 +62,19 @@ pub fn pruning_table(
     moves: &[MoveCode],
     depth: usize,
     table: &mut [u8],
-) -> Answer
+) -> Result<usize, Refusal>
     ensures { PruningTableResult n starts.now moves.now depth table.old table.new result }
 {
-    let number = early_refusal(n, starts.len(), moves, depth);
-    if number != 0 {
-        return Answer::Refused(number);
-    }
-    let Growth::To(count) = fill(table, n, starts, moves, depth) else {
-        let whole = table.len();
-        ground::bytes::clear(&mut table[..whole]);
-        return Answer::Refused(6);
+    check_early(n, starts.len(), moves, depth)?;
+    let job = Job {
+        n,
+        starts,
+        moves,
+        depth: depth as u8,
     };
-    Answer::Value(count)
+    let Some(count) = fill(table, job) else {
+        table.fill(0);
+        return Err(Refusal::Room);
+    };
+    Ok(count)
 }

@@ -11,9 +11,9 @@ use lib.Seq.{sets, sets-eq, length-take-le}
 use Rattle.std.specs.Prelude.{Result, Ok, Err}
 use borrow.Author.Tests.{le-ltb, lt-ltb}
 use Rattle.ground.specs.declared.refusals.Refusal.{Refusal}
-use Rattle.ground.specs.declared.refusals.Refusal.TheVariants.{Size, Length, Code, Width, Room, Bounds, Table, Work, Index, Letter, Digits, Ending, Sign, Level}
 use Rattle.ground.specs.Refusals.{number_of, refusal}
 use Rattle.ground.proofs.ChoiceLaws.{bool_cases}
+use Rattle.ground.proofs.RefusalLaws.{refusal_back}
 use Rattle.generic_cube.specs.Sizes.{sized}
 use Rattle.generic_cube.specs.Code.{move_of, is_wide, refusal_in, list_refusal}
 use Rattle.generic_cube.proofs.CodeLaws.{Good, AllGood, good_taken, inside, inside_not}
@@ -28,23 +28,6 @@ use Rattle.scramble_parser.specs.Inner.{in_text, tally, up_to, prefix}
 use Rattle.scramble_parser.specs.declared.ParseError.TheVariants.{At}
 
 -- ---- a word of the text
-
--- each refusal has its number
-pub refusal_back : (r : Refusal) → refusal (number_of r) ≡ r
-refusal_back Size = refl
-refusal_back Length = refl
-refusal_back Code = refl
-refusal_back Width = refl
-refusal_back Room = refl
-refusal_back Bounds = refl
-refusal_back Table = refl
-refusal_back Work = refl
-refusal_back Index = refl
-refusal_back Letter = refl
-refusal_back Digits = refl
-refusal_back Ending = refl
-refusal_back Sign = refl
-refusal_back Level = refl
 
 -- a word reads as a code if its token does, and the place of its fault is within the text
 pub read_of : (s : ℕ) {c : ℕ} (t : Result ℕ Fault) → Ok c ≡ in_text s t → Ok c ≡ t

@@ -1,4 +1,3 @@
 pub mod SearchLaws
 pub mod PathFreeLaws
 pub mod RuleLaws
-pub mod KeyLaws

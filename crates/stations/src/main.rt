@@ -2,128 +2,114 @@
 // what stands in them.
 #![tactic(auto)]
 
-use std::io::{self, Read};
+use crate::record::{Fault, Record};
+use std::alloc::{AllocError, Global};
+use std::io::{self, BufRead, BufReader, Read};
 
 mod calls;
-mod fields;
+mod record;
 
-// What came of a record: 0 the library gave what it says, 1 it gave something else, 2 the line is no record.
-fn replay(line: &[u8]) -> u8 {
-    let mut told: u8 = 0;
-    if fields::separators(line) != 16 {
-        return 2;
-    }
-    if calls::entry_of(fields::field(line, 0)) == 16 {
-        return 2;
-    }
-    calls::replay(line, &mut told);
-    told
+// How many bytes a line has at most, with its line feed, and how many lines are read.
+const LINE_ROOM: u64 = 16384;
+
+const LINES: usize = 100_000;
+
+// How many records the library gave what they say, how many it gave something else, and how many lines are no record.
+#[derive(Clone, Copy, Debug, PartialEq, Eq)]
+struct Tally {
+    same: u64,
+    differ: u64,
+    none: u64,
 }
 
-// Says of a line what came of it.
-fn tell(rt: &impl Print, at: usize, what: &[u8], line: &[u8]) -> io::Result<()> {
+// What came of a line.
+#[derive(Clone, Copy, Debug, PartialEq, Eq)]
+enum Told {
+    Same,
+    Differs,
+    NoRecord,
+}
+
+fn replay(alloc: Global, line: &[u8]) -> Result<Told, AllocError> {
+    match Record::read(alloc, line).and_then(calls::replay) {
+        Ok(()) => Ok(Told::Same),
+        Err(Fault::Differs) => Ok(Told::Differs),
+        Err(Fault::NoRecord) => Ok(Told::NoRecord),
+        Err(Fault::OutOfMemory(e)) => Err(e),
+    }
+}
+
+// Says of a line what came of it, and whose record it is.
+fn tell(rt: &impl Print, at: usize, what: &[u8], name: &[u8]) -> io::Result<()> {
     print!(rt; "line {at}")?;
     rt.write_all(what)?;
-    rt.write_all(fields::field(line, 0))?;
+    rt.write_all(name)?;
     rt.write_all(b"\n")
 }
 
-// One more in a tally; there are never so many lines that a count wraps.
-fn add(tally: &mut [u64; 3], k: usize) {
-    if k < 3 {
-        tally[k] = tally[k].wrapping_add(1);
-    }
-}
-
-fn replay_line(rt: &impl Print, at: usize, line: &[u8], tally: &mut [u64; 3]) -> io::Result<()> {
-    let told = replay(line);
-    add(tally, told as usize);
-    match told {
-        0 => Ok(()),
-        1 => tell(rt, at, b" differs: ", line),
-        _ => tell(rt, at, b" is no record: ", line),
-    }
-}
-
-// The next byte of the input, if there is one.
-#[derive(Clone, Copy)]
-enum Next {
-    Byte(u8),
-    End,
-}
-
-fn read_byte<R: Read>(input: &mut R) -> io::Result<Next> {
-    let mut one = [0u8; 1];
-    if input.read(&mut one)? == 0 {
-        return Ok(Next::End);
-    }
-    Ok(Next::Byte(one[0]))
-}
-
-// Reads up to a line feed: the bytes before it; as many as there is room for where a line has no end or is too long, one more at the end of
-// the input.
-fn read_line<R: Read>(input: &mut R, line: &mut [u8]) -> io::Result<usize> {
-    let mut i: usize = 0;
-    while i < line.len() {
-        let Next::Byte(b) = read_byte(input)? else {
-            if i == 0 {
-                return Ok(line.len() + 1);
-            }
-            return Ok(line.len());
-        };
-        if b == 10 {
-            return Ok(i);
-        }
-        line[i] = b;
-        i += 1;
-    }
-    Ok(i)
-}
-
-// A line that was read, or what is there of one. One that begins with a hyphen is a remark.
-fn replay_read(
+// A line that was read. One that begins with a hyphen is a remark.
+fn replay_line(
     rt: &impl Print,
+    alloc: Global,
     at: usize,
     line: &[u8],
-    k: usize,
-    tally: &mut [u64; 3],
+    tally: &mut Tally,
 ) -> io::Result<()> {
-    let read = fields::front(line, k);
-    if k == line.len() {
-        add(tally, 2);
-        return tell(rt, at, b" is cut or too long: ", b"");
-    }
-    if fields::is_remark(read) {
+    if line.starts_with(b"-") {
         return Ok(());
     }
-    replay_line(rt, at, read, tally)
+    let name = line.split(|&b| b == b'|').next().unwrap_or(b"");
+    match replay(alloc, line)? {
+        Told::Same => {
+            tally.same = tally.same.saturating_add(1);
+            Ok(())
+        }
+        Told::Differs => {
+            tally.differ = tally.differ.saturating_add(1);
+            tell(rt, at, b" differs: ", name)
+        }
+        Told::NoRecord => {
+            tally.none = tally.none.saturating_add(1);
+            tell(rt, at, b" is no record: ", name)
+        }
+    }
 }
 
-// Replays every line, at most 100,000.
-fn replay_all<R: Read>(
+// Replays every line, so many at most. A line that does not end within its room is none, and what follows it is the next.
+fn replay_all<R: BufRead>(
     rt: &impl Print,
+    alloc: Global,
     input: &mut R,
-    line: &mut [u8],
-    tally: &mut [u64; 3],
+    tally: &mut Tally,
 ) -> io::Result<()> {
-    let mut at: usize = 0;
-    while at < 100000 {
-        let k = read_line(input, line)?;
-        if line.len() < k {
+    for at in 1..=LINES {
+        let mut line = Vec::new(alloc);
+        let read = input.by_ref().take(LINE_ROOM).read_until(b'\n', &mut line)?;
+        if read == 0 {
             return Ok(());
         }
-        at += 1;
-        replay_read(rt, at, line, k, tally)?;
+        match line.strip_suffix(b"\n") {
+            Some(whole) => replay_line(rt, alloc, at, whole, tally)?,
+            None => {
+                tally.none = tally.none.saturating_add(1);
+                tell(rt, at, b" is cut or too long: ", b"")?;
+            }
+        }
     }
     rt.write_all(b"what follows is not read\n")
 }
 
 fn main(rt: HostRuntime) -> io::Result<()> {
-    let mut tally = [0u64; 3];
-    let mut line = [0u8; 16384];
-    replay_all(&rt, &mut rt.reader(), &mut line, &mut tally)?;
+    let alloc = rt.alloc();
+    let mut tally = Tally {
+        same: 0,
+        differ: 0,
+        none: 0,
+    };
+    let mut input = BufReader::new(alloc, rt.reader())?;
+    replay_all(&rt, alloc, &mut input, &mut tally)?;
     println!(rt;
         "{} records as they say, {} differ, {} lines are no record",
-        tally[0], tally[1], tally[2]
+        tally.same, tally.differ, tally.none
     )
 }

@@ -2,10 +2,9 @@
 #![tactic(auto)]
 
 ghost use Rattle.std.specs.Prelude.{◌≡◌};
-ghost use Rattle.sticker.specs.Place.{num_of};
 
-// A face of the cube; also the half axis that points to it.
-#[derive(Clone, Copy)]
+// A face of the cube; also the half axis that points to it. Its number is its place in the order.
+#[derive(Clone, Copy, Debug, PartialEq, Eq)]
 pub enum Face {
     U,
     R,
@@ -15,16 +14,12 @@ pub enum Face {
     B,
 }
 
-// The place of a face in the order.
-pub fn number(f: Face) -> usize
-    ensures { result ≡ num_of f }
-{
-    match f {
-        Face::U => 0,
-        Face::R => 1,
-        Face::F => 2,
-        Face::D => 3,
-        Face::L => 4,
-        Face::B => 5,
+impl From<Face> for usize {
+    ghost use Rattle.sticker.specs.Place.{num_of};
+
+    ghost from_gives = { λ f k. k ≡ num_of f };
+
+    fn from(f: Face) -> usize {
+        f as usize
     }
 }

@@ -1,183 +1,82 @@
 -- The order of keys is a strict order, and a walk along two keys finds it.
-use mathlib.Core.Path.{◌≡◌, refl, sym, ap, ap₂, subst, ◌∙◌}
-use mathlib.Core.List.{List, [], ◌∷◌}
+use mathlib.Core.Path.{◌≡◌, refl, sym, ap, ap₂, ◌∙◌}
+use mathlib.Core.List.{List}
 use mathlib.Core.Bool.{true, false, true≢false}
-use Prim.Native.Nat.{ℕ, zero, suc, ◌+◌, ◌*◌, ◌/◌, ◌≤◌, ◌<◌}
-use native.Mathlib.Nat.{add-zero}
+use Rattle.std.specs.Cmp.{unsigned_ties}
+use Rattle.std.specs.Cmp.Lexicographic.{lists_ties}
+use Rattle.std.proofs.lemmas.Cmp.{tied_itself, nat_list_cmp_total}
+use lib.Pointwise.{bytes_decides}
+use Prim.Native.Nat.{ℕ, ◌+◌, ◌≤◌, ◌<◌}
 use native.Mathlib.Numerals.{add-one}
 use native.Mathlib.Omega.{arith}
-use lib.Dec.{ltb}
 use lib.ListN.{length, drop, get_or, drop_of_length-le}
 use lib.Seq.{drop-cons}
-use borrow.Author.Tests.{lt-ltb, le-ltb}
-use Rattle.ground.specs.Choice.{pick}
-use Rattle.ground.proofs.ChoiceLaws.{order_cases}
-use Rattle.table.specs.declared.Order.{Order}
-use Rattle.table.specs.declared.Order.TheVariants.{Less, Same, More}
-use Rattle.table.specs.Order.{order_of, is_same, is_less}
-use Rattle.table.specs.Inner.{word_of}
+use borrow.Author.Tests.{lt-ltb, le-ltb, eq-eqb}
+use Rattle.std.specs.declared.cmp.Ordering.{Ordering}
+use Rattle.std.specs.declared.cmp.Ordering.TheVariants.{Less, Equal, Greater}
+use Rattle.table.specs.Order.{order_of}
+use Rattle.std.specs.Ordering.{is_eq, is_lt, nat_cmp, ordering_then, ordering_reverse}
 
 -- an order is one of three
-pub order_split {ℓ} : {A : Type ℓ} (o : Order) → (o ≡ Less → A) → (o ≡ Same → A) → (o ≡ More → A) → A
+pub order_split {ℓ} : {A : Type ℓ} (o : Ordering) → (o ≡ Less → A) → (o ≡ Equal → A) → (o ≡ Greater → A) → A
 order_split Less f g h = f refl
-order_split Same f g h = g refl
-order_split More f g h = h refl
+order_split Equal f g h = g refl
+order_split Greater f g h = h refl
 
--- two keys with a byte in front of each
-data View (a b : ℕ) (x y : List ℕ) : Type 0 where
-  below : a < b → order_of (a ∷ x) (b ∷ y) ≡ Less → View a b x y
-  above : b < a → order_of (a ∷ x) (b ∷ y) ≡ More → View a b x y
-  level : a ≡ b → order_of (a ∷ x) (b ∷ y) ≡ order_of x y → View a b x y
-
-view : (a b : ℕ) (x y : List ℕ) → View a b x y
+-- the order's laws are std's of lists of numbers
+pub same_eq : (x y : List ℕ) → order_of x y ≡ Equal → x ≡ y
 unfolding order_of
-view a b x y =
-    order_cases a b
-    (λ h. below h (rw (lt-ltb a b h)))
-    (λ h. level h (rw (le-ltb a b (omega arith), le-ltb b a (omega arith))))
-    (λ h. above h (rw (le-ltb a b (omega arith), lt-ltb b a h)))
+same_eq x y e = (bytes_decides x y).0 (lists_ties nat_cmp unsigned_ties x y ∙ ap is_eq e)
 
-less_same : Less ≡ Same → ⊥
-less_same e = let z : ◌≡◌ {A = ℕ} 0 1 = cc in omega arith
-
-more_same : More ≡ Same → ⊥
-more_same e = let z : ◌≡◌ {A = ℕ} 0 1 = cc in omega arith
-
-more_less : More ≡ Less → ⊥
-more_less e = let z : ◌≡◌ {A = ℕ} 0 1 = cc in omega arith
-
-pub same_eq : (x y : List ℕ) → order_of x y ≡ Same → x ≡ y
+pub eq_same : (x : List ℕ) → order_of x x ≡ Equal
 unfolding order_of
-same_eq [] [] e = refl
-same_eq [] (b ∷ y) e = absurd (less_same e)
-same_eq (a ∷ x) [] e = absurd (more_same e)
-same_eq (a ∷ x) (b ∷ y) e = go (same_eq x y) (view a b x y)
-  where
-    go : (order_of x y ≡ Same → x ≡ y) → View a b x y → a ∷ x ≡ b ∷ y
-    go rec (below h g) = absurd (less_same (sym g ∙ e))
-    go rec (above h g) = absurd (more_same (sym g ∙ e))
-    go rec (level h g) = ap₂ ◌∷◌ h (rec (sym g ∙ e))
+eq_same x = tied_itself nat_list_cmp_total x
 
-pub eq_same : (x : List ℕ) → order_of x x ≡ Same
+pub more_flip : (x y : List ℕ) → order_of x y ≡ Greater → order_of y x ≡ Less
 unfolding order_of
-eq_same [] = refl
-eq_same (a ∷ x) = rw (le-ltb a a (omega arith)) (eq_same x)
-
-pub more_flip : (x y : List ℕ) → order_of x y ≡ More → order_of y x ≡ Less
-unfolding order_of
-more_flip [] [] e = absurd (more_same (sym e))
-more_flip [] (b ∷ y) e = absurd (more_less (sym e))
-more_flip (a ∷ x) [] e = refl
-more_flip (a ∷ x) (b ∷ y) e = go (more_flip x y) (view a b x y)
-  where
-    go : (order_of x y ≡ More → order_of y x ≡ Less) → View a b x y → order_of (b ∷ y) (a ∷ x) ≡ Less
-    go rec (below h g) = absurd (more_less (sym e ∙ g))
-    go rec (above h g) = rw (lt-ltb b a h)
-    go rec (level h g) = rw (le-ltb b a (omega arith), le-ltb a b (omega arith)) (rec (sym g ∙ e))
+more_flip x y e = nat_list_cmp_total.antisymm y x ∙ ap ordering_reverse e
 
 pub less_trans : (x y z : List ℕ) → order_of x y ≡ Less → order_of y z ≡ Less → order_of x z ≡ Less
 unfolding order_of
-less_trans [] [] z p q = absurd (less_same (sym p))
-less_trans [] (b ∷ y) [] p q = absurd (more_less q)
-less_trans [] (b ∷ y) (c ∷ z) p q = refl
-less_trans (a ∷ x) [] z p q = absurd (more_less p)
-less_trans (a ∷ x) (b ∷ y) [] p q = absurd (more_less q)
-less_trans (a ∷ x) (b ∷ y) (c ∷ z) p q = go (less_trans x y z) (view a b x y) (view b c y z)
-  where
-    go : (order_of x y ≡ Less → order_of y z ≡ Less → order_of x z ≡ Less) → View a b x y → View b c y z → order_of (a ∷ x) (c ∷ z) ≡ Less
-    go rec (above h g) v = absurd (more_less (sym g ∙ p))
-    go rec (below h g) (above h' g') = absurd (more_less (sym g' ∙ q))
-    go rec (level h g) (above h' g') = absurd (more_less (sym g' ∙ q))
-    go rec (below h g) (below h' g') = rw (lt-ltb a c (omega arith))
-    go rec (below h g) (level h' g') = rw (lt-ltb a c (omega arith))
-    go rec (level h g) (below h' g') = rw (lt-ltb a c (omega arith))
-    go rec (level h g) (level h' g') = rw (le-ltb a c (omega arith), le-ltb c a (omega arith)) (rec (sym g ∙ p) (sym g' ∙ q))
+less_trans = nat_list_cmp_total.trans
 
 pub less_irrefl : (x : List ℕ) → order_of x x ≡ Less → ⊥
-less_irrefl x e = less_same (sym e ∙ eq_same x)
-
--- equal keys are the same
-pub unlike : (x y : List ℕ) → is_same (order_of x y) ≡ false → x ≡ y → ⊥
-unlike x y h e = true≢false (sym (ap is_same (subst (λ z. order_of x z ≡ Same) e (eq_same x))) ∙ h)
+less_irrefl x e = let z : ◌≡◌ {A = Ordering} Less Equal = sym e ∙ eq_same x in let q : ◌≡◌ {A = ℕ} 0 1 = cc in omega arith
 
 -- which order a test says
-pub is_less_lem : (o : Order) → is_less o ≡ true → o ≡ Less
+pub is_less_lem : (o : Ordering) → is_lt o ≡ true → o ≡ Less
 is_less_lem Less e = refl
-is_less_lem Same e = absurd (true≢false (sym e))
-is_less_lem More e = absurd (true≢false (sym e))
+is_less_lem Equal e = absurd (true≢false (sym e))
+is_less_lem Greater e = absurd (true≢false (sym e))
 
 -- a key that is not the same, either way round
-pub less_not_same : (x y : List ℕ) → order_of x y ≡ Less → is_same (order_of x y) ≡ false
+pub less_not_same : (x y : List ℕ) → order_of x y ≡ Less → is_eq (order_of x y) ≡ false
 less_not_same x y h = rw h
 
--- two numbers decide how keys stand, or leave it to what follows them
-unfoldable pub decided : ℕ → ℕ → Order → Order
-decided v w rest = pick (ltb v w) Less (pick (ltb w v) More rest)
+-- two bytes decide how keys stand, or leave it to what follows them
+unfoldable pub decided : ℕ → ℕ → Ordering → Ordering
+decided v w rest = ordering_then (nat_cmp v w) rest
 
-module _ {v w : ℕ} (rest : Order) where
+module _ {v w : ℕ} (rest : Ordering) where
   pub decided_less : v < w → decided v w rest ≡ Less
   unfolding decided
   decided_less lt = rw (lt-ltb v w lt)
 
-  pub decided_more : w < v → decided v w rest ≡ More
-  unfolding decided
-  decided_more gt = rw (le-ltb v w (omega arith), lt-ltb w v gt)
-
   pub decided-next : w ≤ v → v ≤ w → decided v w rest ≡ rest
   unfolding decided
-  decided-next le ge = rw (le-ltb v w le, le-ltb w v ge)
+  decided-next le ge = rw (le-ltb v w le, eq-eqb v w (omega arith))
 
--- numbers with a byte behind each decide as the numbers and then the bytes do
-decided_digit : (v w a b : ℕ) (rest : Order) → a < 256 → b < 256 → decided v w (decided a b rest) ≡ decided (256 * v + a) (256 * w + b) rest
-decided_digit v w a b rest h g =
-    order_cases v w
-    (λ lt. decided_less _ lt ∙ sym (decided_less _ (omega arith)))
-    (λ eq. decided-next _ (omega arith) (omega arith) ∙ order_cases a b
-    (λ lt. decided_less _ lt ∙ sym (decided_less _ (omega arith)))
-    (λ e. decided-next _ (omega arith) (omega arith) ∙ sym (decided-next _ (omega arith) (omega arith)))
-    (λ gt. decided_more _ gt ∙ sym (decided_more _ (omega arith))))
-    (λ gt. decided_more _ gt ∙ sym (decided_more _ (omega arith)))
-
--- the first k bytes from j on as a number, the first the highest
-unfoldable bytes_up : List ℕ → ℕ → ℕ → ℕ
-bytes_up s j zero = 0
-bytes_up s j (suc k) = 256 * bytes_up s j k + get_or s (j + k) 0
-
-word_up : (s : List ℕ) (j : ℕ) → word_of s j ≡ bytes_up s j 6
-unfolding bytes_up
-word_up s j = simp (add-zero) (omega arith)
-
--- a walk along two keys of one length that comes to place j: the bytes there decide, the numbers of the next k bytes do, or there is no byte left
+-- a walk along two keys of one length that comes to place j: the bytes there decide, or there is no byte left
 module _ (x y : List ℕ) (e : length x ≡ length y) where
   pub byte_step : (j : ℕ) → j < length x
       → order_of (drop j x) (drop j y) ≡ decided (get_or x j 0) (get_or y j 0) (order_of (drop (j + 1) x) (drop (j + 1) y))
   unfolding order_of decided
   byte_step j h = ap₂ order_of (drop-cons x j 0 h) (drop-cons y j 0 (omega arith)) ∙ rw (add-one j)
 
-  pub byte_end : (j : ℕ) → length x ≤ j → order_of (drop j x) (drop j y) ≡ Same
+  pub byte_end : (j : ℕ) → length x ≤ j → order_of (drop j x) (drop j y) ≡ Equal
   unfolding order_of
   byte_end j h = ap₂ order_of (drop_of_length-le x h) (drop_of_length-le y {i = j} (omega arith))
 
-  module _ (below : (j : ℕ) → get_or x j 0 < 256) (below' : (j : ℕ) → get_or y j 0 < 256) where
-    bytes_step : (j k : ℕ) → j + k ≤ length x
-        → order_of (drop j x) (drop j y) ≡ decided (bytes_up x j k) (bytes_up y j k) (order_of (drop (j + k) x) (drop (j + k) y))
-    unfolding bytes_up decided
-    bytes_step j zero h = rw add-zero refl
-    bytes_step j (suc k) h =
-        let d : j + k + 1 ≡ j + suc k = omega arith in
-        bytes_step j k (omega arith) ∙ ap (decided (bytes_up x j k) (bytes_up y j k)) (byte_step (j + k) (omega arith))
-        ∙ decided_digit (bytes_up x j k) (bytes_up y j k) (get_or x (j + k) 0) (get_or y (j + k) 0) _ (below (j + k)) (below' (j + k))
-        ∙ ap (λ i. decided (bytes_up x j (suc k)) (bytes_up y j (suc k)) (order_of (drop i x) (drop i y))) d
-
-    -- the i-th words, as they were read
-    pub word_step_lem : (i : ℕ) → i < length x / 6 → {v w : ℕ} → v ≡ word_of x (6 * i) → w ≡ word_of y (6 * i)
-        → order_of (drop (6 * i) x) (drop (6 * i) y) ≡ decided v w (order_of (drop (6 * (i + 1)) x) (drop (6 * (i + 1)) y))
-    word_step_lem i h {v} {w} p q =
-        let d : 6 * i + 6 ≡ 6 * (i + 1) = omega arith in
-        bytes_step (6 * i) 6 (omega arith)
-        ∙ ap₂ (λ a b. decided a b (order_of (drop (6 * i + 6) x) (drop (6 * i + 6) y))) (sym (p ∙ word_up x (6 * i))) (sym (q ∙ word_up y (6 * i)))
-        ∙ ap (λ k. decided v w (order_of (drop k x) (drop k y))) d
-
 -- the order that was found of keys that were read
-pub order_told : {x x' y y' : List ℕ} {o : Order} → x ≡ x' → y ≡ y' → o ≡ order_of x y → order_of x' y' ≡ o
+pub order_told : {x x' y y' : List ℕ} {o : Ordering} → x ≡ x' → y ≡ y' → o ≡ order_of x y → order_of x' y' ≡ o
 order_told e d h = sym (h ∙ ap₂ order_of e d)

@@ -4,7 +4,7 @@ use mathlib.Core.List.{List, ◌∷◌}
 use mathlib.Core.Bool.{Bool, true, false, ◌&&◌, true≢false}
 use mathlib.Core.Logic.{⊎_elim}
 use Prim.Native.Nat.{ℕ, zero, suc, ◌+◌, ◌-◌, ◌*◌, ◌%◌, ◌≤◌, ◌<◌}
-use native.Mathlib.Nat.{le-div_iff_mul-le, suc-mul, div-le_self, eq-or-lt_of_le, sub-zero, zero-mul}
+use native.Mathlib.Nat.{le-div_iff_mul-le, suc-mul, div-le_self, eq-or-lt_of_le, zero-mul}
 use native.Mathlib.Numerals.{add-one}
 use native.Mathlib.Omega.{arith}
 use lib.Dec.{eqb}
@@ -12,11 +12,11 @@ use lib.ListN.{length, drop, length-drop}
 use lib.Seq.{length-take-le, drop-drop, get_or-drop}
 use borrow.Author.Tests.{eq-eqb, ne_eqb}
 use Rattle.ground.specs.Choice.{pick}
-use Rattle.ground.proofs.ChoiceLaws.{less_cases}
-use Rattle.table.specs.declared.Order.TheVariants.{Less, Same, More}
-use Rattle.table.specs.Order.{order_of, is_same, is_less}
+use Rattle.ground.proofs.ChoiceLaws.{bool_cases, less_cases}
+use Rattle.std.specs.declared.cmp.Ordering.TheVariants.{Less, Equal, Greater}
+use Rattle.table.specs.Order.{order_of}
+use Rattle.std.specs.Ordering.{is_eq, is_lt}
 use Rattle.table.proofs.OrderLaws.{order_split, same_eq, eq_same, more_flip, less_trans, less_irrefl, is_less_lem, less_not_same}
-use Rattle.table.specs.Inner.{KeyLength, EntryThere}
 use Rattle.table.specs.Table.{Entry, numbered, entry_count, first_entries, entries_of, number_for, keys_rise, state_number, well_formed}
 use Rattle.table.specs.Entries.{entry_key, entry_number, Rising}
 
@@ -29,17 +29,6 @@ fits m i t lt =
 pub length_key : (m i : ℕ) (t : List ℕ) → i < entry_count m t → length (entry_key m t i) ≡ m
 length_key m i t lt = length-take-le m (drop (i * (m + 1)) t) (omega (arith, fits m i t lt, length-drop (i * (m + 1)) t))
 
--- the same of an entry that is there
-pub there_fits : {m i : ℕ} {t : List ℕ} → EntryThere m t i → i * (m + 1) + (m + 1) ≤ length t
-there_fits {m} {i} {t} h = fits m i t h.there
-
-pub there_long : {m i : ℕ} {t s : List ℕ} → EntryThere m t i → s ≡ entry_key m t i → length s ≡ m
-there_long {m} {i} {t} h e = ap length e ∙ length_key m i t h.there
-
--- and that its key can be compared with one of its length
-pub comparable : {m i n : ℕ} {t s : List ℕ} → KeyLength m → EntryThere m t i → n ≡ m → s ≡ entry_key m t i → (length s ≡ n) × (length s % 6 ≡ 0)
-comparable k h long e = let l = there_long h e in (l ∙ sym long, ap (λ (n : ℕ). n % 6) l ∙ k.words)
-
 -- there are no more entries than bytes
 pub entries_most : (m : ℕ) (t : List ℕ) → entry_count m t ≤ length t
 entries_most m t = div-le_self (length t) (m + 1)
@@ -47,11 +36,11 @@ entries_most m t = div-le_self (length t) (m + 1)
 -- the number beside the first of n keys from i on that is s, or d where none is; and each of n keys from i on is less than the next
 unfoldable pub look_from : (ℕ → List ℕ) → (ℕ → ℕ) → List ℕ → ℕ → ℕ → ℕ → ℕ
 look_from key number s d i zero = d
-look_from key number s d i (suc n) = pick (is_same (order_of (key i) s)) (number i) (look_from key number s d (suc i) n)
+look_from key number s d i (suc n) = pick (is_eq (order_of (key i) s)) (number i) (look_from key number s d (suc i) n)
 
 unfoldable pub rises_from : (ℕ → List ℕ) → ℕ → ℕ → Bool
 rises_from key i zero = true
-rises_from key i (suc n) = pick (is_less (order_of (key i) (key (suc i)))) (rises_from key (suc i) n) false
+rises_from key i (suc n) = pick (is_lt (order_of (key i) (key (suc i)))) (rises_from key (suc i) n) false
 
 -- the entries of a slice from entry i on, by their places
 entry_drop : (m i : ℕ) (t : List ℕ) → drop (m + 1) (drop (i * (m + 1)) t) ≡ drop (suc i * (m + 1)) t
@@ -71,17 +60,21 @@ unfolding number_for look_from first_entries
 number_from m t s d i zero = refl
 number_from m t s d i (suc n) =
     ap (number_for s d) (entries_step m i n t)
-    ∙ ap (λ (r : ℕ). pick (is_same (order_of (entry_key m t i) s)) (entry_number m t i) r) (number_from m t s d (suc i) n)
+    ∙ ap (λ (r : ℕ). pick (is_eq (order_of (entry_key m t i) s)) (entry_number m t i) r) (number_from m t s d (suc i) n)
 
 slice_start : (m : ℕ) (t : List ℕ) → drop (0 * (m + 1)) t ≡ t
 slice_start m t = ap (λ (k : ℕ). drop k t) (zero-mul (m + 1))
 
+pub entries_look : (m : ℕ) (t s : List ℕ) (d : ℕ)
+    → number_for s d (entries_of m t) ≡ look_from (entry_key m t) (entry_number m t) s d 0 (entry_count m t)
+entries_look m t s d =
+    ap (λ (l : List ℕ). number_for s d (first_entries m (entry_count m t) l)) (sym (slice_start m t))
+    ∙ number_from m t s d 0 (entry_count m t)
+
 pub number_look : (m : ℕ) (t : List ℕ) (depth : ℕ) (s : List ℕ)
     → state_number m t depth s ≡ look_from (entry_key m t) (entry_number m t) s (depth + 1) 0 (entry_count m t)
 unfolding state_number
-number_look m t depth s =
-    ap (λ (l : List ℕ). number_for s (depth + 1) (first_entries m (entry_count m t) l)) (sym (slice_start m t))
-    ∙ number_from m t s (depth + 1) 0 (entry_count m t)
+number_look m t depth s = entries_look m t s (depth + 1)
 
 both_pick : (t u : Bool) → (t && u) ≡ pick t u false
 both_pick true u = refl
@@ -92,9 +85,9 @@ unfolding keys_rise rises_from first_entries
 rise_from m t i zero = refl
 rise_from m t i (suc n) =
     ap keys_rise (entries_step m i (suc n) t ∙ ap (λ (l : List Entry). numbered (entry_key m t i) (entry_number m t i) ∷ l) (entries_step m (suc i) n t))
-    ∙ both_pick (is_less (order_of (entry_key m t i) (entry_key m t (suc i))))
+    ∙ both_pick (is_lt (order_of (entry_key m t i) (entry_key m t (suc i))))
     (keys_rise (numbered (entry_key m t (suc i)) (entry_number m t (suc i)) ∷ first_entries m n (drop (suc (suc i) * (m + 1)) t)))
-    ∙ ap (λ (b : Bool). pick (is_less (order_of (entry_key m t i) (entry_key m t (suc i)))) b false)
+    ∙ ap (λ (b : Bool). pick (is_lt (order_of (entry_key m t i) (entry_key m t (suc i)))) b false)
     (ap keys_rise (sym (entries_step m (suc i) n t)) ∙ rise_from m t (suc i) n)
 
 rise_all : (m : ℕ) (t : List ℕ) (n : ℕ) → keys_rise (first_entries m n t) ≡ rises_from (entry_key m t) 0 (n - 1)
@@ -110,34 +103,9 @@ form_from m t =
     both_pick (eqb (length t % (m + 1)) 0) (keys_rise (entries_of m t))
     ∙ ap (λ (b : Bool). pick (eqb (length t % (m + 1)) 0) b false) (rise_all m t (entry_count m t))
 
--- a test of rising keys that comes to key i of n and the next
-module _ (k : ℕ → List ℕ) (i n : ℕ) where
-  rise_step : i < n → rises_from k i (n - i) ≡ pick (is_less (order_of (k i) (k (i + 1)))) (rises_from k (i + 1) (n - (i + 1))) false
-  unfolding rises_from
-  rise_step lt =
-      let e : n - i ≡ suc (n - (i + 1)) = omega arith in
-      ap (rises_from k i) e ∙ ap (λ (j : ℕ). pick (is_less (order_of (k i) (k j))) (rises_from k j (n - (i + 1))) false) (sym (add-one i))
-
-  pub rise_next : i < n → is_less (order_of (k i) (k (i + 1))) ≡ true → rises_from k i (n - i) ≡ rises_from k (i + 1) (n - (i + 1))
-  rise_next lt e = rise_step lt ∙ rw e
-
-  pub rise_fails : i < n → is_less (order_of (k i) (k (i + 1))) ≡ false → rises_from k i (n - i) ≡ false
-  rise_fails lt e = rise_step lt ∙ rw e
-
-  pub rise_end : n ≤ i → rises_from k i (n - i) ≡ true
-  unfolding rises_from
-  rise_end le = let e : n - i ≡ 0 = omega arith in ap (rises_from k i) e
-
--- a table that isn't whole entries, one with no entry, and the test of one that has some
-module _ (m : ℕ) (t : List ℕ) where
-  pub form_cut : (length t % (m + 1) ≡ 0 → ⊥) → well_formed m t ≡ false
-  form_cut e = form_from m t ∙ rw (ne_eqb (length t % (m + 1)) 0 e)
-
-  pub form_rises : length t % (m + 1) ≡ 0 → well_formed m t ≡ rises_from (entry_key m t) 0 (entry_count m t - 1 - 0)
-  form_rises e = form_from m t ∙ rw (eq-eqb (length t % (m + 1)) 0 e, sub-zero)
-
-  pub form_empty : length t % (m + 1) ≡ 0 → entry_count m t ≡ 0 → well_formed m t ≡ true
-  form_empty e z = form_rises e ∙ rise_end (entry_key m t) 0 (entry_count m t - 1) (omega arith)
+-- a table that isn't whole entries
+pub form_cut : (m : ℕ) (t : List ℕ) → (length t % (m + 1) ≡ 0 → ⊥) → well_formed m t ≡ false
+form_cut m t e = form_from m t ∙ rw (ne_eqb (length t % (m + 1)) 0 e)
 
 -- keys of which each is less than the next rise
 both : (t u : Bool) → pick t u false ≡ true → (t ≡ true) × (u ≡ true)
@@ -148,7 +116,7 @@ rises_at : (k : ℕ → List ℕ) (i n : ℕ) → rises_from k i n ≡ true → 
 unfolding rises_from
 rises_at k i zero e j le lt = absurd (omega arith)
 rises_at k i (suc n) e j le lt =
-    let w = both (is_less (order_of (k i) (k (suc i)))) (rises_from k (suc i) n) e in
+    let w = both (is_lt (order_of (k i) (k (suc i)))) (rises_from k (suc i) n) e in
     ⊎_elim (λ (h : i ≡ j). subst (λ (a : ℕ). order_of (k a) (k (suc a)) ≡ Less) h (is_less_lem _ w.0))
     (λ (h : i < j). rises_at k (suc i) n w.1 j h (omega arith)) (eq-or-lt_of_le le)
 
@@ -183,9 +151,24 @@ rising_formed m t e up =
     form_from m t ∙ rw (eq-eqb (length t % (m + 1)) 0 e)
     (rising_rises (entry_key m t) 0 (entry_count m t - 1) (λ j le lt. up j (suc j) (omega arith) (omega arith)))
 
+-- entries of which each was found less than the next, and one that was not
+pub steps_formed : (m : ℕ) (t : List ℕ) → length t % (m + 1) ≡ 0
+    → ((i : ℕ) → i < entry_count m t → 1 ≤ i → order_of (entry_key m t (i - 1)) (entry_key m t i) ≡ Less) → well_formed m t ≡ true
+steps_formed m t e up =
+    form_from m t ∙ rw (eq-eqb (length t % (m + 1)) 0 e)
+    (rising_rises (entry_key m t) 0 (entry_count m t - 1) (λ j le lt. let s : suc j - 1 ≡ j = omega arith in subst (λ (a : ℕ). order_of (entry_key m t a) (entry_key m t (suc j)) ≡ Less) s (up (suc j) (omega arith) (omega arith))))
+
+pub form_fails : (m : ℕ) (t : List ℕ) (i : ℕ) → 1 ≤ i → i < entry_count m t
+    → is_lt (order_of (entry_key m t (i - 1)) (entry_key m t i)) ≡ false → well_formed m t ≡ false
+unfolding Rising
+form_fails m t i some lt e =
+    bool_cases (well_formed m t)
+    (λ w. absurd (true≢false (ap is_lt (sym (formed_rising m t w (i - 1) i (omega arith) lt)) ∙ e)))
+    (λ w. w)
+
 -- what a lookup gives where the key stands
-look_hit : (k : ℕ → List ℕ) (v : ℕ → ℕ) (s : List ℕ) (d i n j : ℕ) → i ≤ j → j < i + n → order_of (k j) s ≡ Same
-    → ((a : ℕ) → i ≤ a → a < j → is_same (order_of (k a) s) ≡ false) → look_from k v s d i n ≡ v j
+look_hit : (k : ℕ → List ℕ) (v : ℕ → ℕ) (s : List ℕ) (d i n j : ℕ) → i ≤ j → j < i + n → order_of (k j) s ≡ Equal
+    → ((a : ℕ) → i ≤ a → a < j → is_eq (order_of (k a) s) ≡ false) → look_from k v s d i n ≡ v j
 unfolding look_from
 look_hit k v s d i zero j le lt h b = absurd (omega arith)
 look_hit k v s d i (suc n) j le lt h b =
@@ -198,7 +181,7 @@ module _ (k : ℕ → List ℕ) (v : ℕ → ℕ) (s : List ℕ) (n : ℕ) (up :
   pub look_found : (d j : ℕ) → j < n → k j ≡ s → look_from k v s d 0 n ≡ v j
   unfolding Rising
   look_found d j lt e =
-      look_hit k v s d 0 n j (omega arith) (omega arith) (subst (λ (x : List ℕ). order_of (k j) x ≡ Same) e (eq_same (k j)))
+      look_hit k v s d 0 n j (omega arith) (omega arith) (subst (λ (x : List ℕ). order_of (k j) x ≡ Equal) e (eq_same (k j)))
       (λ a p q. less_not_same (k a) s (subst (λ (z : List ℕ). order_of (k a) z ≡ Less) e (up a j q lt)))
 
 -- halving: of n keys every one before low is less than s, and s is less than every one behind the `span` keys from there on
@@ -207,11 +190,8 @@ pub record Halved (k : ℕ → List ℕ) (n : ℕ) (s : List ℕ) (low span : �
   pub before : (i : ℕ) → i < low → order_of (k i) s ≡ Less
   pub after : (i : ℕ) → low + span ≤ i → i < n → order_of s (k i) ≡ Less
 
-pub halved_all : (k : ℕ → List ℕ) (n : ℕ) (s : List ℕ) → Halved k n s 0 n
-halved_all k n s = record { most = omega arith; before = λ i lt. absurd (omega arith); after = λ i ge lt. absurd (omega arith) }
-
 module _ {k : ℕ → List ℕ} {n : ℕ} {s : List ℕ} {low span : ℕ} (up : Rising k n) (h : Halved k n s low span) (half : ℕ) (lt : half < span) where
-  pub half_less : order_of (k (low + half)) s ≡ Less → Halved k n s (low + half + 1) (span - half - 1)
+  pub half_less : order_of (k (low + half)) s ≡ Less → Halved k n s (low + half + 1) (span - (half + 1))
   unfolding Rising
   half_less e =
       record {
@@ -222,7 +202,7 @@ module _ {k : ℕ → List ℕ} {n : ℕ} {s : List ℕ} {low span : ℕ} (up : 
         after = λ i g. h.after i (omega arith);
       }
 
-  pub half_more : order_of (k (low + half)) s ≡ More → Halved k n s low half
+  pub half_more : order_of (k (low + half)) s ≡ Greater → Halved k n s low half
   unfolding Rising
   half_more e =
       record {
@@ -239,12 +219,12 @@ pub look_cases {ℓ} : {A : Type ℓ} (k : ℕ → List ℕ) (v : ℕ → ℕ) (
 unfolding look_from
 look_cases k v s d i zero f g = g refl
 look_cases {A = A} k v s d i (suc n) f g =
-    let miss : is_same (order_of (k i) s) ≡ false → A =
+    let miss : is_eq (order_of (k i) s) ≡ false → A =
     λ e. look_cases k v s d (suc i) n (λ j h l q. f j (omega arith) (omega arith) q) (λ q. g (rw e q)) in
     order_split (order_of (k i) s)
-    (λ e. miss (ap is_same e))
+    (λ e. miss (ap is_eq e))
     (λ e. f i (omega arith) (omega arith) (same_eq (k i) s e))
-    (λ e. miss (ap is_same e))
+    (λ e. miss (ap is_eq e))
 
 -- nothing is left to halve: the key is not there
 pub look_halved : {k : ℕ → List ℕ} {n : ℕ} {s : List ℕ} {low span : ℕ} (v : ℕ → ℕ) (d : ℕ) → Halved k n s low span → span ≤ 0

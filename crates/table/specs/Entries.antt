@@ -1,6 +1,6 @@
 -- Entries by their places in a slice.
 use Rattle.std.specs.Prelude.{ℕ, ◌+◌, ◌*◌, ◌<◌, ◌≡◌, List, take, drop, get_or}
-use Rattle.table.specs.declared.Order.TheVariants.{Less}
+use Rattle.std.specs.declared.cmp.Ordering.TheVariants.{Less}
 use Rattle.table.specs.Order.{order_of}
 
 -- the key and the number of entry i

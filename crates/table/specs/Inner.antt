@@ -1,6 +1,6 @@
 -- Inner contracts: what the functions over a table ask of their arguments, and how entries are read and written by their places.
-use Rattle.std.specs.Prelude.{ℕ, ◌+◌, ◌*◌, ◌%◌, ◌≤◌, ◌<◌, ◌≡◌, true, List, ◌++◌, length, take, drop, get_or}
-use Rattle.table.specs.Table.{entry_count, well_formed}
+use Rattle.std.specs.Prelude.{ℕ, ◌+◌, ◌*◌, ◌≤◌, ◌<◌, ◌≡◌, true, List, ◌++◌, length, take, drop, get_or}
+use Rattle.table.specs.Table.{well_formed}
 
 -- two, four and six bytes from j on as a number, the first the highest
 abbrev pub two_of : List ℕ → ℕ → ℕ
@@ -13,15 +13,9 @@ abbrev pub word_of : List ℕ → ℕ → ℕ
 word_of s j =
     256 * (256 * (256 * (256 * (256 * get_or s j 0 + get_or s (j + 1) 0) + get_or s (j + 2) 0) + get_or s (j + 3) 0) + get_or s (j + 4) 0) + get_or s (j + 5) 0
 
--- the length of a cube's key: whole words
+-- the length of a cube's key
 pub record KeyLength (m : ℕ) : Type 0 where
   pub short : m < 1000
-  pub words : m % 6 ≡ 0
-
--- entry i is there
-pub record EntryThere (m : ℕ) (table : List ℕ) (i : ℕ) : Type 0 where
-  pub short : m < 1000
-  pub there : i < entry_count m table
 
 -- a key can be looked up in a table of that depth
 pub record Lookup (m : ℕ) (table : List ℕ) (depth : ℕ) (key : List ℕ) : Type 0 where

@@ -1,7 +1,8 @@
 -- A table: entries of a key, the m bytes of a cube, and a number, one byte; and what the search reads in it.
 use Rattle.std.specs.Prelude.{ℕ, zero, suc, ◌+◌, ◌/◌, ◌%◌, Bool, true, ◌&&◌, List, [], ◌∷◌, ◌++◌, eqb, length, take, drop, get_or}
 use Rattle.ground.specs.Choice.{pick}
-use Rattle.table.specs.Order.{order_of, is_same, is_less}
+use Rattle.table.specs.Order.{order_of}
+use Rattle.std.specs.Ordering.{is_eq, is_lt}
 
 -- an entry is the bytes of a cube and one byte, its number
 pub record Entry : Type 0 where
@@ -30,7 +31,7 @@ entries_of m table = first_entries m (entry_count m table) table
 -- the number of the first entry whose key is s, or d where there is none
 unfoldable pub number_for : List ℕ → ℕ → List Entry → ℕ
 number_for s d [] = d
-number_for s d (x ∷ xs) = pick (is_same (order_of x.key s)) x.number (number_for s d xs)
+number_for s d (x ∷ xs) = pick (is_eq (order_of x.key s)) x.number (number_for s d xs)
 
 -- the search reads an entry's number, or depth + 1 for an absent state
 unfoldable pub state_number : ℕ → List ℕ → ℕ → List ℕ → ℕ
@@ -40,7 +41,7 @@ state_number m table depth s = number_for s (depth + 1) (entries_of m table)
 unfoldable pub keys_rise : List Entry → Bool
 keys_rise [] = true
 keys_rise (x ∷ []) = true
-keys_rise (x ∷ y ∷ ys) = is_less (order_of x.key y.key) && keys_rise (y ∷ ys)
+keys_rise (x ∷ y ∷ ys) = is_lt (order_of x.key y.key) && keys_rise (y ∷ ys)
 
 -- 8: a table isn't whole entries with strictly rising keys
 unfoldable pub well_formed : ℕ → List ℕ → Bool

@@ -2,32 +2,20 @@
 // number; entries stand in rising order of their keys.
 #![tactic(auto)]
 
-ghost use Rattle.std.specs.Prelude.{◌≡◌, ◌+◌, ◌%◌, ◌≤◌, ◌<◌, length};
-ghost use Rattle.table.specs.Order.{order_of, is_less};
+ghost use Rattle.std.specs.Prelude.{ℕ, ◌≡◌, true, ◌+◌, ◌%◌, ◌≤◌, ◌<◌, ◌↔◌, length, IsTrue};
+ghost use Rattle.std.specs.Option.{unwrap_or};
 ghost use Rattle.table.specs.Entries.{entry_key, entry_number};
-ghost use Rattle.table.specs.Table.{state_number, well_formed};
-ghost use Rattle.table.specs.Inner.{two_of, four_of, word_of, KeyLength, EntryThere, Lookup};
+ghost use Rattle.table.specs.Table.{entry_count, entries_of, number_for, state_number, well_formed};
+ghost use Rattle.table.specs.Inner.{two_of, four_of, word_of, KeyLength, Lookup};
 
-// How two keys stand, byte by byte from the front.
-#[derive(Clone, Copy)]
-pub enum Order {
-    Less,
-    Same,
-    More,
-}
-
-fn wide(x: u8) -> u32
-    ensures { (result ≡ x) × (result < 256) }
-{
-    x as u32
-}
+use std::cmp::Ordering;
 
 // Two bytes as a number, the first the highest.
 fn two(s: &[u8], j: usize) -> u32
     requires { j + 2 ≤ length s.now }
     ensures { (result ≡ two_of s.now j) × (result < 65536) }
 {
-    256 * wide(s[j]) + wide(s[j + 1])
+    256 * u32::from(s[j]) + u32::from(s[j + 1])
 }
 
 // Four bytes as a number.
@@ -35,10 +23,13 @@ fn four(s: &[u8], j: usize) -> u32
     requires { j + 4 ≤ length s.now }
     ensures { (result ≡ four_of s.now j) × (result < 4294967296) }
 {
-    16777216 * wide(s[j]) + 65536 * wide(s[j + 1]) + 256 * wide(s[j + 2]) + wide(s[j + 3])
+    16777216 * u32::from(s[j])
+        + 65536 * u32::from(s[j + 1])
+        + 256 * u32::from(s[j + 2])
+        + u32::from(s[j + 3])
 }
 
-// Six bytes as a number: words stand as their bytes do.
+// Six bytes as a number.
 pub fn word(s: &[u8], j: usize) -> usize
     requires { j + 6 ≤ length s.now }
     ensures { (result ≡ word_of s.now j) × (result < 281474976710656) }
@@ -46,81 +37,77 @@ pub fn word(s: &[u8], j: usize) -> usize
     65536 * (four(s, j) as usize) + (two(s, j + 4) as usize)
 }
 
-// How two keys stand, by words.
-pub fn compare(a: &[u8], b: &[u8]) -> Order
-    requires { (length a.now ≡ length b.now) × (length a.now % 6 ≡ 0) }
-    ensures { result ≡ order_of a.now b.now }
-{
-    let words = a.len() / 6;
-    let mut i = 0;
-    while i < words {
-        let x = word(a, 6 * i);
-        let y = word(b, 6 * i);
-        if x < y {
-            return Order::Less;
-        }
-        if y < x {
-            return Order::More;
-        }
-        i += 1;
+// Entries in a slice: keys of m bytes, each with its number behind it.
+#[derive(Clone, Copy)]
+pub struct Entries<'a> {
+    pub bytes: &'a [u8],
+    pub m: usize,
+    ghost whole: { KeyLength m },
+}
+
+impl<'a> Entries<'a> {
+    // How many whole entries there are.
+    pub fn count(self) -> usize
+        ensures { result ≡ entry_count self.entry.m self.entry.bytes.now }
+    {
+        self.bytes.len() / (self.m + 1)
     }
-    Order::Same
-}
 
-// Whether the first of two keys is less than the second.
-fn is_less(order: Order) -> bool
-    ensures { result ≡ is_less order }
-{
-    match order {
-        Order::Less => true,
-        Order::Same => false,
-        Order::More => false,
+    // The key of entry i.
+    pub fn key(self, i: usize) -> &'a [u8]
+        requires { i < entry_count self.m self.bytes.now }
+        ensures { result.now ≡ entry_key self.entry.m self.entry.bytes.now i }
+    {
+        let from = i * (self.m + 1);
+        &self.bytes[from..from + self.m]
+    }
+
+    // Whether entry i has that key.
+    pub fn has_key(self, i: usize, key: &[u8]) -> bool
+        requires { (i < entry_count self.m self.bytes.now) × (length key.now ≡ self.m) }
+        ensures { IsTrue result ↔ (entry_key self.entry.m self.entry.bytes.now i ≡ key.now) }
+    {
+        self.key(i) == key
+    }
+
+    // The number of entry i.
+    pub fn number(self, i: usize) -> u8
+        requires { i < entry_count self.m self.bytes.now }
+        ensures { result ≡ entry_number self.entry.m self.entry.bytes.now i }
+    {
+        self.bytes[i * (self.m + 1) + self.m]
+    }
+
+    // The number of the entry with that key, if there is one: of the `span` entries from `low` on, half at a time is left out.
+    pub fn find(self, key: &[u8]) -> Option<u8>
+        requires { (length key.now ≡ self.m) × (well_formed self.m self.bytes.now ≡ true) }
+        ensures { (d : ℕ) → unwrap_or result d ≡ number_for key.now d (entries_of self.entry.m self.entry.bytes.now) }
+    {
+        let mut low = 0;
+        let mut span = self.count();
+        while 0 < span {
+            let half = span / 2;
+            let mid = low + half;
+            match self.key(mid).cmp(key) {
+                Ordering::Equal => return Some(self.number(mid)),
+                Ordering::Less => {
+                    low = mid + 1;
+                    span -= half + 1;
+                }
+                Ordering::Greater => span = half,
+            }
+        }
+        None
     }
 }
 
-// The key of entry i.
-pub fn key_at(table: &[u8], m: usize, i: usize) -> &[u8]
-    requires { EntryThere m table.now i }
-    ensures { result.now ≡ entry_key m table.now i }
-{
-    let from = i * (m + 1);
-    let to = from + m;
-    &table[from..to]
-}
-
-// The number of entry i.
-pub fn number_at(table: &[u8], m: usize, i: usize) -> u8
-    requires { EntryThere m table.now i }
-    ensures { result ≡ entry_number m table.now i }
-{
-    let at = i * (m + 1) + m;
-    table[at]
-}
-
-// The number of the entry with that key, or depth + 1 where there is none: of the `span` entries from `low` on, half at a time is left out.
+// The number of the entry with that key, or depth + 1 where there is none.
 pub fn number(table: &[u8], m: usize, depth: usize, key: &[u8]) -> usize
     requires { Lookup m table.now depth key.now }
     ensures { result ≡ state_number m table.now depth key.now }
 {
-    let mut low = 0;
-    let mut span = table.len() / (m + 1);
-    while 0 < span {
-        let half = span / 2;
-        let mid = low + half;
-        match compare(key_at(table, m, mid), key) {
-            Order::Same => {
-                return number_at(table, m, mid) as usize;
-            }
-            Order::Less => {
-                low = mid + 1;
-                span = span - half - 1;
-            }
-            Order::More => {
-                span = half;
-            }
-        }
-    }
-    depth + 1
+    let entries = Entries { bytes: table, m };
+    entries.find(key).map_or(depth + 1, usize::from)
 }
 
 // Whether a table is whole entries with strictly rising keys.
@@ -128,21 +115,12 @@ pub fn is_well_formed(table: &[u8], m: usize) -> bool
     requires { KeyLength m }
     ensures { result ≡ well_formed m table.now }
 {
-    let size = m + 1;
-    if table.len() % size != 0 {
+    if table.len() % (m + 1) != 0 {
         return false;
     }
-    let count = table.len() / size;
-    if count == 0 {
-        return true;
-    }
-    let last = count - 1;
-    let mut i = 0;
-    while i < last {
-        let order = compare(key_at(table, m, i), key_at(table, m, i + 1));
-        if is_less(order) {
-            i += 1;
-        } else {
+    let entries = Entries { bytes: table, m };
+    for i in 1..entries.count() {
+        if !entries.key(i - 1).cmp(entries.key(i)).is_lt() {
             return false;
         }
     }

@@ -21,11 +21,10 @@ use Rattle.table.specs.Table.{Entry, numbered}
 use Rattle.search_theory.specs.Levels.{OneMove, ReachIn, Least}
 use Rattle.key_index.specs.declared.Classes.{Classes}
 use Rattle.key_index.specs.InnerIndex.{classes}
-use Rattle.key_index.proofs.IndexLaws.{tags_differ, class_most}
+use Rattle.key_index.proofs.IndexLaws.{class_most}
 use Rattle.table_level.specs.declared.Stage.{Stage}
-use Rattle.table_level.specs.declared.Growth.{Growth}
-use Rattle.table_level.specs.declared.Growth.TheVariants.{To, Over}
-use Rattle.table_climb.specs.declared.Rise.TheVariants as risen
+use Rattle.std.specs.Prelude.{Option, Some, None, Err}
+use Rattle.table_climb.specs.declared.Stop.TheVariants as risen
 use Rattle.table_theory.specs.Built.{add, cubes, starts_of, table_of}
 use Rattle.table.proofs.EntryListLaws.{no_entry}
 use Rattle.table_theory.proofs.AddLaws.{add_cases, add_sorted, Sorted, sorted_rising}
@@ -298,97 +297,47 @@ staged_large g =
       new = g.new;
     }
 
--- building begins
-pub staged_first : (n : ℕ) (starts moves : List ℕ) (depth : ℕ) (t : List ℕ) (large : Bool)
-    → Staged n starts moves depth t (record { number = 0; from = 0; last = length starts / stickers n; base = 0; count = 0; large = large })
-staged_first n starts moves depth t large =
-    record {
-      room = omega arith;
-      within = omega arith;
-      begun = omega arith;
-      ended = λ h. refl;
-      first = λ q. (refl, refl, refl);
-      later = λ f. absurd (f refl);
-      distinct = λ i j lt h. absurd (omega arith);
-      right = λ i h. absurd (omega arith);
-      whole = λ j s h r. absurd (omega arith);
-      old = λ i a b. absurd (omega arith);
-      front = λ i a b. absurd (omega arith);
-      new = λ i a b. absurd (omega arith);
-    }
-
--- what climbing comes to
-module _ {n : ℕ} {starts moves : List ℕ} {depth : ℕ} {t : List ℕ} {count : ℕ} {t' : List ℕ} where
-  pub risen_to : {c : ℕ} → Stood n starts moves depth t' c → Stayed (stickers n) t count t' c → RiseTold n starts moves depth t count t' (risen.To c)
-  risen_to s k =
-      record { to = λ c e. subst (λ (j : ℕ). Stood n starts moves depth t' j × Stayed (stickers n) t count t' j) (cc) (s, k); at = λ x e. tags_differ (cc); over = λ e. tags_differ (cc) }
-
-  pub risen_at : {s : Stage} → Staged n starts moves depth t' s → Stayed (stickers n) t count t' s.count → s.large ≡ true
-      → RiseTold n starts moves depth t count t' (risen.At s)
-  risen_at {s} g k l =
-      record {
-        to = λ c e. tags_differ (cc);
-        at = λ x e. subst (λ (y : Stage). Staged n starts moves depth t' y × Stayed (stickers n) t count t' y.count × (y.large ≡ true)) (cc) (g, k, l);
-        over = λ e. tags_differ (cc);
-      }
-
-  pub risen_over : Outnumbered n starts moves depth t → RiseTold n starts moves depth t count t' risen.Over
-  risen_over h = record { to = λ c e. tags_differ (cc); at = λ x e. tags_differ (cc); over = λ e. h }
-
-  pub raised_to : {c : ℕ} → Stood n starts moves depth t' c → Stayed (stickers n) t count t' c → Raised n starts moves depth t count t' (To c)
-  raised_to s k = record { to = λ c e. subst (λ (j : ℕ). Stood n starts moves depth t' j × Stayed (stickers n) t count t' j) (cc) (s, k); over = λ e. tags_differ (cc) }
-
-  pub raised_over : Outnumbered n starts moves depth t → Raised n starts moves depth t count t' Over
-  raised_over h = record { to = λ c e. tags_differ (cc); over = λ e. h }
-
 -- over the slice as it was before
 pub outnumbered_on : (n : ℕ) (starts moves : List ℕ) (depth : ℕ) {t t' : List ℕ} {count count' : ℕ} → Stayed (stickers n) t count t' count'
     → Outnumbered n starts moves depth t' → Outnumbered n starts moves depth t
 outnumbered_on n starts moves depth k h = subst (λ (j : ℕ). j < length (table_of n starts moves depth)) (stay_entries k) h
 
-pub raised_on : {n : ℕ} {starts moves : List ℕ} {depth : ℕ} {t t₁ t' : List ℕ} {count count₁ : ℕ} {r : Growth} → Stayed (stickers n) t count t₁ count₁
+pub raised_on : (n : ℕ) (starts moves : List ℕ) (depth : ℕ) {t t₁ : List ℕ} (t' : List ℕ) {count count₁ : ℕ} (r : Option ℕ) → Stayed (stickers n) t count t₁ count₁
     → Raised n starts moves depth t₁ count₁ t' r → Raised n starts moves depth t count t' r
-raised_on {n} {starts} {moves} {depth} k x =
-    record { to = λ c e. let w = x.to c e in (w.0, stay_two k w.1); over = λ e. outnumbered_on n starts moves depth k (x.over e) }
+raised_on n starts moves depth t' (Some c) k x = (x.0, stay_two k x.1)
+raised_on n starts moves depth t' None k x = outnumbered_on n starts moves depth k x
 
 -- climbing from one stage to another
-pub record Standing (n : ℕ) (starts moves : List ℕ) (depth : ℕ) (t₀ : List ℕ) (count₀ : ℕ) (t : List ℕ) (s : Stage) (count : ℕ) : Type 0 where
+pub record Standing (n : ℕ) (starts moves : List ℕ) (depth : ℕ) (t₀ : List ℕ) (count₀ : ℕ) (t : List ℕ) (s : Stage) : Type 0 where
   pub staged : Staged n starts moves depth t s
-  pub is : s.count ≡ count
-  pub stayed : Stayed (stickers n) t₀ count₀ t count
+  pub stayed : Stayed (stickers n) t₀ count₀ t s.count
 
-pub stand_first : {n : ℕ} {starts moves : List ℕ} {depth : ℕ} {t : List ℕ} {s : Stage} → Staged n starts moves depth t s → Standing n starts moves depth t s.count t s s.count
-stand_first g = record { staged = g; is = refl; stayed = stay_none }
+pub stand_first : {n : ℕ} {starts moves : List ℕ} {depth : ℕ} {t : List ℕ} {s : Stage} → Staged n starts moves depth t s → Standing n starts moves depth t s.count t s
+stand_first g = record { staged = g; stayed = stay_none }
 
-module _ {n : ℕ} {starts moves : List ℕ} {depth : ℕ} {t₀ : List ℕ} {count₀ : ℕ} {t : List ℕ} {s : Stage} {count : ℕ} (g : Standing n starts moves depth t₀ count₀ t s count) where
-  on : {t' : List ℕ} {c : ℕ} → Stayed (stickers n) t s.count t' c → Stayed (stickers n) t₀ count₀ t' c
-  on {t'} {c} k = stay_two g.stayed (subst (λ (j : ℕ). Stayed (stickers n) t j t' c) g.is k)
-
+module _ {n : ℕ} {starts moves : List ℕ} {depth : ℕ} {t₀ : List ℕ} {count₀ : ℕ} {t : List ℕ} {s : Stage} (g : Standing n starts moves depth t₀ count₀ t s) where
   -- it pauses for a larger index
-  pub stand_pause : {s' : Stage} → s' ≡ outgrown_stage s count → RiseTold n starts moves depth t₀ count₀ t (risen.At s')
+  pub stand_pause : {s' : Stage} → s' ≡ outgrown_stage s s.count → RiseTold n starts moves depth t₀ count₀ t (Err (risen.Outgrown s'))
   stand_pause {s'} q =
-      let e : s' ≡ outgrown_stage s s.count = q ∙ ap (outgrown_stage s) (sym g.is) in
-      let w : Staged n starts moves depth t (outgrown_stage s s.count) = staged_large g.staged in
-      risen_at (subst (Staged n starts moves depth t) (sym e) w)
-      (subst (λ (x : Stage). Stayed (stickers n) t₀ count₀ t x.count) (sym q) g.stayed) (ap (λ (x : Stage). x.large) q)
+      subst (λ (x : Stage). RiseTold n starts moves depth t₀ count₀ t (Err (risen.Outgrown x))) (sym q) (staged_large g.staged, g.stayed, refl)
 
   module _ (inside : s.number ≤ depth) where
     pub stand_crowded : {t' : List ℕ} {c : ℕ} {s' : Stage} → Widened (stickers n) s.number (Source n starts moves s t) t s.count t' c → s' ≡ outgrown_stage s c
-        → RiseTold n starts moves depth t₀ count₀ t' (risen.At s')
+        → RiseTold n starts moves depth t₀ count₀ t' (Err (risen.Outgrown s'))
     stand_crowded {t'} {c} {s'} w q =
-        risen_at (subst (Staged n starts moves depth t') (sym q) (staged_grown g.staged inside w true))
-        (subst (λ (x : Stage). Stayed (stickers n) t₀ count₀ t' x.count) (sym q) (on w.stayed)) (ap (λ (x : Stage). x.large) q)
+        subst (λ (x : Stage). RiseTold n starts moves depth t₀ count₀ t' (Err (risen.Outgrown x))) (sym q)
+        (staged_grown g.staged inside w true, stay_two g.stayed w.stayed, refl)
 
     pub stand_over : {t' : List ℕ} → Outgrown (stickers n) s.number (Source n starts moves s t) t s.count t' → Outnumbered n starts moves depth t₀
     stand_over o = outnumbered_on n starts moves depth g.stayed (staged_over g.staged inside o)
 
     pub stand_level : {t' : List ℕ} {c : ℕ} {s' : Stage} → Widened (stickers n) s.number (Source n starts moves s t) t s.count t' c → Covered n starts moves s t' c
-        → s' ≡ next_stage s c → Standing n starts moves depth t₀ count₀ t' s' c
+        → s' ≡ next_stage s c → Standing n starts moves depth t₀ count₀ t' s'
     stand_level {t'} w done q =
-        record { staged = subst (Staged n starts moves depth t') (sym q) (staged_level g.staged inside w done); is = ap (λ (x : Stage). x.count) q; stayed = on w.stayed }
+        subst (Standing n starts moves depth t₀ count₀ t') (sym q) (record { staged = staged_level g.staged inside w done; stayed = stay_two g.stayed w.stayed })
 
-  pub stand_done : depth < s.number → Stood n starts moves depth t count
-  stand_done h = subst (Stood n starts moves depth t) g.is (staged_done g.staged h)
+  pub stand_done : depth < s.number → Stood n starts moves depth t s.count × Stayed (stickers n) t₀ count₀ t s.count
+  stand_done h = (staged_done g.staged h, g.stayed)
 
 -- all classes were swept
 pub swept_all : {n : ℕ} {starts moves : List ℕ} (s : Stage) {t : List ℕ} {c : ℕ} (k : Classes) → k.low ≡ 0 → k.high ≡ classes
@@ -398,8 +347,3 @@ swept_all s k low high f r x = f x.at x.low x.high r x.due (omega arith, omega (
 -- the calls that are left: one, from the small index to the large one
 abbrev pub tier : Bool → ℕ
 tier large = pick large 0 1
-
-pub tier_falls : (a b : Bool) {t : ℕ} → tier a ≡ t → a ≡ false → b ≡ true → tier b < t
-tier_falls true b e f g = absurd (true≢false f)
-tier_falls false true e f g = omega arith
-tier_falls false false e f g = absurd (true≢false (sym g))

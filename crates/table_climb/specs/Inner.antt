@@ -1,19 +1,17 @@
 -- Inner contracts of climbing: where building stands, and what climbing from level to level comes to.
-use Rattle.std.specs.Prelude.{ℕ, ◌+◌, ◌/◌, ◌≤◌, ◌<◌, ◌≡◌, true, List, length}
+use Rattle.std.specs.Prelude.{ℕ, ◌+◌, ◌/◌, ◌≤◌, ◌<◌, ◌≡◌, true, Option, Some, None, Result, Ok, Err, List, length}
 use Rattle.generic_cube.specs.Sizes.{stickers}
 use Rattle.table.specs.Entries.{entry_key, entry_number, Present}
 use Rattle.table.specs.Inner.{Distinct}
 use Rattle.table.specs.Table.{entry_count}
 use Rattle.search_theory.specs.Levels.{ReachIn, Least, Exact}
-use Rattle.table_level.specs.declared.Growth.{Growth}
-use Rattle.table_level.specs.declared.Growth.TheVariants.{To, Over}
 use Rattle.table_level.specs.declared.Stage.{Stage}
-use Rattle.table_climb.specs.declared.Rise as rise
-use Rattle.table_climb.specs.declared.Rise.TheVariants as risen
+use Rattle.table_climb.specs.declared.Stop.{Stop}
+use Rattle.table_climb.specs.declared.Stop.TheVariants.{Outgrown, Full}
 use Rattle.table_theory.specs.Built.{table_of}
 use Rattle.search_theory.specs.CubeSearch.{moved_by}
 use Rattle.table_theory.specs.Exact.{Start}
-use Rattle.table_level.specs.Inner.{Stayed, MovesTurn}
+use Rattle.table_level.specs.Inner.{Stayed}
 
 -- building stands at a stage: each entry has its least count, each state with a lower one than the level's is there, and the entries of a
 -- level stand together
@@ -37,22 +35,16 @@ pub record Stood (n : ℕ) (starts moves : List ℕ) (depth : ℕ) (t : List ℕ
   pub distinct : Distinct (entry_key (stickers n) t) count
   pub exact : Exact (moved_by n) moves (Start n starts) depth (entry_key (stickers n) t) (entry_number (stickers n) t) count
 
--- building a table of that depth, with room for a cube
-pub record BuildReady (n depth : ℕ) (moves : List ℕ) (next : ℕ) : Type 0 where
-  pub turning : MovesTurn n moves next
-  pub few : length moves ≤ 255
-  pub shallow : depth ≤ 20
-
 -- the states outnumber the entries that fit
 abbrev pub Outnumbered : ℕ → List ℕ → List ℕ → ℕ → List ℕ → Type 0
 Outnumbered n starts moves depth t = entry_count (stickers n) t < length (table_of n starts moves depth)
 
 -- what climbing comes to: with one index, and with all
-pub record RiseTold (n : ℕ) (starts moves : List ℕ) (depth : ℕ) (t : List ℕ) (count : ℕ) (t' : List ℕ) (r : rise.Rise) : Type 0 where
-  pub to : (c : ℕ) → r ≡ risen.To c → Stood n starts moves depth t' c × Stayed (stickers n) t count t' c
-  pub at : (s : Stage) → r ≡ risen.At s → Staged n starts moves depth t' s × Stayed (stickers n) t count t' s.count × (s.large ≡ true)
-  pub over : r ≡ risen.Over → Outnumbered n starts moves depth t
+abbrev pub RiseTold : ℕ → List ℕ → List ℕ → ℕ → List ℕ → ℕ → List ℕ → Result ℕ Stop → Type 0
+RiseTold n starts moves depth t count t' (Ok c) = Stood n starts moves depth t' c × Stayed (stickers n) t count t' c
+RiseTold n starts moves depth t count t' (Err (Outgrown s)) = Staged n starts moves depth t' s × Stayed (stickers n) t count t' s.count × (s.large ≡ true)
+RiseTold n starts moves depth t count t' (Err Full) = Outnumbered n starts moves depth t
 
-pub record Raised (n : ℕ) (starts moves : List ℕ) (depth : ℕ) (t : List ℕ) (count : ℕ) (t' : List ℕ) (r : Growth) : Type 0 where
-  pub to : (c : ℕ) → r ≡ To c → Stood n starts moves depth t' c × Stayed (stickers n) t count t' c
-  pub over : r ≡ Over → Outnumbered n starts moves depth t
+abbrev pub Raised : ℕ → List ℕ → List ℕ → ℕ → List ℕ → ℕ → List ℕ → Option ℕ → Type 0
+Raised n starts moves depth t count t' (Some c) = Stood n starts moves depth t' c × Stayed (stickers n) t count t' c
+Raised n starts moves depth t count t' None = Outnumbered n starts moves depth t

@@ -1,34 +1,31 @@
 -- Laws of entries that are added to the end of others, and of what a stretch of a level comes to.
 use Prim.Native.Nat.{ℕ, suc, ◌+◌, ◌-◌, ◌*◌, ◌/◌, ◌≤◌, ◌<◌}
 use mathlib.Core.Path.{◌≡◌, refl, sym, ap, ap₂, subst, ◌∙◌}
-use mathlib.Core.Bool.{Bool, true, false, true≢false}
+use mathlib.Core.Bool.{false}
 use mathlib.Core.Logic.{⊎_elim}
 use mathlib.Core.List.{List, [], ◌∷◌, ◌++◌, append_assoc}
-use native.Mathlib.Nat.{eq-or-lt_of_le, mul-le-mul_right, suc-mul, le-div_iff_mul-le, div-le_self}
+use native.Mathlib.Nat.{eq-or-lt_of_le, mul-le-mul_right, suc-mul}
 use native.Mathlib.Numerals.{add-one}
 use native.Mathlib.Omega.{arith}
-use lib.Dec.{eqb}
-use lib.ListN.{length, take, drop, get_or, set, replicate, length-append, length-drop, length-replicate}
+use lib.ListN.{length, take, drop, get_or, set, length-append}
 use lib.Seq.{length-take-le, drop-cons, drop-drop, take_at, get_or_at, set_at}
-use borrow.Author.Tests.{eqb-true, eqb-false}
-use Rattle.ground.proofs.ChoiceLaws.{bool_cases, less_cases}
-use Rattle.ground.proofs.ListLaws.{member_at, member_place}
+use Rattle.ground.proofs.ChoiceLaws.{less_cases}
+use Rattle.ground.proofs.ListLaws.{member_place}
 use Rattle.generic_cube.specs.Sizes.{stickers}
 use Rattle.table.specs.Entries.{entry_key, entry_number, Present}
-use Rattle.table.specs.Inner.{KeyLength, entry_at, with_entry}
+use Rattle.table.specs.Inner.{entry_at, with_entry}
 use Rattle.table.specs.Table.{entry_count}
 use Rattle.table.proofs.TableLaws.{fits}
 use Rattle.table.proofs.EntriesLaws.{entry_key_lem, entry_number_lem, written_long, written_here, written_past, written_elsewhere}
 use Rattle.key_index.specs.declared.Classes.{Classes}
-use Rattle.key_index.specs.InnerIndex.{run_length, classes, class_of, Indexed, Empty}
-use Rattle.key_index.specs.Inner.{Filing}
-use Rattle.key_index.proofs.IndexLaws.{tags_differ, class_most}
+use Rattle.key_index.specs.InnerIndex.{classes, class_of, Indexed}
+use Rattle.key_index.proofs.IndexLaws.{class_most}
 use Rattle.search_theory.specs.CubeSearch.{moved_by}
-use Rattle.table_level.specs.declared.Stretch.{Stretch}
-use Rattle.table_level.specs.declared.Stretch.TheVariants.{Went, Crowded, Full}
+use Rattle.std.specs.Prelude.{Some, None, Result, Ok, Err}
+use Rattle.table_level.specs.declared.Halt.{Halt}
+use Rattle.table_level.specs.declared.Halt.TheVariants.{Crowded, Full}
 use Rattle.table_level.specs.declared.Stage.{Stage}
-use Rattle.table_level.specs.declared.Growth.TheVariants.{To, Over}
-use Rattle.table_level.specs.Inner.{entry_of, Stayed, Widened, Outgrown, Tracking, MovesTurn, Passing, Refiled, Going, Stretched, Entered, LeadsTo, Fanned, start_at, Due, SourcesThere, SourceVisited, Swept, Sourced, Source, Covered, Levelled, outgrown_stage}
+use Rattle.table_level.specs.Inner.{entry_of, Stayed, Widened, Outgrown, Tracking, Going, Stretched, went, crowded, full, Candidate, Entered, LeadsTo, Fanned, start_at, Due, SourcesThere, SourceVisited, Swept, Sourced, Source, SweepTold, Levelled, outgrown_stage}
 
 -- what holds of the places from `from` up to i, and of i, holds up to i + 1
 pub up_to_lem : (P : ℕ → Type 0) (from i : ℕ) → ((j : ℕ) → from ≤ j → j < i → P j) → P i → (j : ℕ) → from ≤ j → j < i + 1 → P j
@@ -181,80 +178,55 @@ append-bytes m i {s} t {ys} d long room f =
     ∙ append_assoc (take a t) s (d ∷ r)
     ∙ ap (λ (l : List ℕ). take a t ++ l) (sym (append_assoc s (d ∷ []) r))
 
--- what comes of a stretch
-module _ {m e : ℕ} {New : List ℕ → Type 0} {t : List ℕ} {count : ℕ} {k : Classes} {Done : List ℕ → ℕ → Type 0} {t' index : List ℕ} where
-  pub stretched_went : {c : ℕ} → Going m e New t count k Done t' index c → Stretched m e New t count k Done t' index (Went c)
-  stretched_went {c} g = record { went = λ j q. subst (Going m e New t count k Done t' index) (cc) g; crowded = λ j q. tags_differ (cc); full = λ q. tags_differ (cc) }
+-- what was done by a stretch that came to its end, and why another came to none
+pub came : {m e : ℕ} {New : List ℕ → Type 0} {t : List ℕ} {count : ℕ} {k : Classes} {Done : List ℕ → ℕ → Type 0} {t' index : List ℕ} {c : ℕ}
+    → Stretched m e New t count k Done t' index (Ok c) → Going m e New t count k Done t' index c
+came (went g) = g
 
-  pub stretched_crowded : {c : ℕ} → Widened m e New t count t' c → k.plain ≡ false → Stretched m e New t count k Done t' index (Crowded c)
-  stretched_crowded {c} g p =
-      record { went = λ j q. tags_differ (cc); crowded = λ j q. (subst (Widened m e New t count t') (cc) g, p); full = λ q. tags_differ (cc) }
+pub crowding : {m e : ℕ} {New : List ℕ → Type 0} {t : List ℕ} {count : ℕ} {k : Classes} {Done : List ℕ → ℕ → Type 0} {t' index : List ℕ} {h : Halt} {c : ℕ}
+    → h ≡ Crowded c → Stretched m e New t count k Done t' index (Err h) → Widened m e New t count t' c × (k.plain ≡ false)
+crowding {m} {e} {New} {t} {count} {k} {Done} {t'} {index} {h} {c} q s = told (rw q at s)
+  where
+    told : Stretched m e New t count k Done t' index (Err (Crowded c)) → Widened m e New t count t' c × (k.plain ≡ false)
+    told (crowded w p) = (w, p)
 
-  pub stretched_full : Outgrown m e New t count t' → Stretched m e New t count k Done t' index Full
-  stretched_full o = record { went = λ j q. tags_differ (cc); crowded = λ j q. tags_differ (cc); full = λ q. o }
+pub filled : {m e : ℕ} {New : List ℕ → Type 0} {t : List ℕ} {count : ℕ} {k : Classes} {Done : List ℕ → ℕ → Type 0} {t' index : List ℕ} {h : Halt}
+    → h ≡ Full → Stretched m e New t count k Done t' index (Err h) → Outgrown m e New t count t'
+filled {m} {e} {New} {t} {count} {k} {Done} {t'} {index} {h} q s = told (rw q at s)
+  where
+    told : Stretched m e New t count k Done t' index (Err Full) → Outgrown m e New t count t'
+    told (full o) = o
 
 -- told otherwise
-pub stretched_as : {m e : ℕ} {New New' : List ℕ → Type 0} {t : List ℕ} {count : ℕ} {k : Classes} {Done Done' : List ℕ → ℕ → Type 0} {t' index : List ℕ} {r : Stretch}
+pub stretched_as : {m e : ℕ} {New New' : List ℕ → Type 0} {t : List ℕ} {count : ℕ} {k : Classes} {Done Done' : List ℕ → ℕ → Type 0} {t' index : List ℕ} {r : Result ℕ Halt}
     → ((s : List ℕ) → New s → New' s) → ((c : ℕ) → Widened m e New t count t' c → Done t' c → Done' t' c)
     → Stretched m e New t count k Done t' index r → Stretched m e New' t count k Done' t' index r
-stretched_as f h s =
-    record {
-      went = λ c q. let g = s.went c q in record { widened = widen_as f g.widened; tracking = g.tracking; done = h c g.widened g.done };
-      crowded = λ c q. let g = s.crowded c q in (widen_as f g.0, g.1);
-      full = λ q. outgrown_as f (s.full q);
-    }
+stretched_as f h (went g) = went (record { widened = widen_as f g.widened; tracking = g.tracking; done = h _ g.widened g.done })
+stretched_as f h (crowded w p) = crowded (widen_as f w) p
+stretched_as f h (full o) = full (outgrown_as f o)
 
 -- a later part of a stretch that did not come to its end
-pub stretched_pass : {m e : ℕ} {New : List ℕ → Type 0} {t₀ t : List ℕ} {count₀ count : ℕ} {k : Classes} {Done Done' : List ℕ → ℕ → Type 0} {t' index : List ℕ} {r : Stretch}
-    → Widened m e New t₀ count₀ t count → ((c : ℕ) → r ≡ Went c → ⊥) → Stretched m e New t count k Done t' index r
-    → Stretched m e New t₀ count₀ k Done' t' index r
-stretched_pass w f s =
-    record {
-      went = λ c q. absurd (f c q);
-      crowded = λ c q. let g = s.crowded c q in (widen_two w g.0, g.1);
-      full = λ q. outgrown_on w (s.full q);
-    }
-
--- filing before a pass: plainly there is nothing to file
-pub passing_files : {m count size : ℕ} {t : List ℕ} {k : Classes} → KeyLength m → Passing m count t size k → k.plain ≡ false → Filing m count t
-passing_files w p e = record { reading = record { whole = w; room = p.room }; few = omega (arith, p.room, p.few e) }
-
-pub emptied : (index : List ℕ) {index' : List ℕ} → index' ≡ replicate (length index) 0 → run_length < length index → length index < 4294967296 → Empty index'
-emptied index {index'} e h g =
-    let l : length index' ≡ length index = ap length e ∙ length-replicate (length index) 0 in
-    record { clear = e ∙ ap (λ (k : ℕ). replicate k 0) (sym l); some = omega arith; few = omega arith }
-
-pub empty_made : (k : ℕ) → run_length < k → k < 4294967296 → Empty (replicate k 0)
-empty_made k h g = let l = length-replicate {A = ℕ} k 0 in record { clear = ap (λ (j : ℕ). replicate j 0) (sym l); some = omega arith; few = omega arith }
-
-module _ {m count size : ℕ} {t index : List ℕ} {k : Classes} (p : Passing m count t size k) where
-  pub refiled_plain : k.plain ≡ true → Refiled m count t index k true
-  refiled_plain e =
-      record { yes = λ q. record { room = p.room; few = p.few; filed = λ f. absurd (true≢false (sym e ∙ f)) }; no = λ q. absurd (true≢false q) }
-
-  pub refiled_told : {r : Bool} → k.plain ≡ false → (r ≡ true → Indexed m count t index k) → Refiled m count t index k r
-  refiled_told e f = record { yes = λ q. record { room = p.room; few = p.few; filed = λ g. f q }; no = λ q. e }
-
--- the count may be named otherwise
-pub tracking_at : {m count count' : ℕ} {t index : List ℕ} {k : Classes} → count' ≡ count → Tracking m count t index k → Tracking m count' t index k
-tracking_at {m} {t = t} {index = index} {k = k} q x = subst (λ (j : ℕ). Tracking m j t index k) (sym q) x
+pub stretched_pass : {m e : ℕ} {New : List ℕ → Type 0} {t₀ t : List ℕ} {count₀ count : ℕ} {k : Classes} {Done Done' : List ℕ → ℕ → Type 0} {t' index : List ℕ} {h : Halt}
+    → Widened m e New t₀ count₀ t count → Stretched m e New t count k Done t' index (Err h) → Stretched m e New t₀ count₀ k Done' t' index (Err h)
+stretched_pass w (crowded v p) = crowded (widen_two w v) p
+stretched_pass w (full o) = full (outgrown_on w o)
 
 -- entering a key: it is there, or of another class; there is no room; it is new
 module _ {m e count : ℕ} {s t : List ℕ} {k : Classes} where
-  pub enter_stay : {index : List ℕ} → Tracking m count t index k → Entered m k s t count → Stretched m e (λ r. r ≡ s) t count k (Entered m k s) t index (Went count)
-  enter_stay x f = stretched_went (record { widened = widen_none x.room; tracking = x; done = f })
+  pub enter_stay : {index : List ℕ} → Tracking m count t index k → Entered m k s t count → Stretched m e (λ r. r ≡ s) t count k (Entered m k s) t index (Ok count)
+  enter_stay x f = went (record { widened = widen_none x.room; tracking = x; done = f })
 
   pub enter_full : {index : List ℕ} → count ≤ entry_count m t → count ≡ entry_count m t → (Present (entry_key m t) count s → ⊥)
-      → Stretched m e (λ r. r ≡ s) t count k (Entered m k s) t index Full
+      → Stretched m e (λ r. r ≡ s) t count k (Entered m k s) t index (Err Full)
   enter_full h q f =
-      stretched_full (record { widened = subst (Widened m e (λ r. r ≡ s) t count t) q (widen_none h); state = s; new = refl; absent = λ p. f (subst (λ (c : ℕ). Present (entry_key m t) c s) (sym q) p) })
+      full (record { widened = subst (Widened m e (λ r. r ≡ s) t count t) q (widen_none h); state = s; new = refl; absent = λ p. f (subst (λ (c : ℕ). Present (entry_key m t) c s) (sym q) p) })
 
   pub enter_new : {index index' t' : List ℕ} → Tracking m count t index k → length s ≡ m → count < entry_count m t → (Present (entry_key m t) count s → ⊥)
       → t' ≡ with_entry m count (entry_of s e) t → (k.plain ≡ false → Indexed m (count + 1) t' index' k)
-      → Stretched m e (λ r. r ≡ s) t count k (Entered m k s) t' index' (Went (count + 1))
+      → Stretched m e (λ r. r ≡ s) t count k (Entered m k s) t' index' (Ok (count + 1))
   enter_new {index} {index'} {t'} x long h f is filed =
       let w = widen_append m e count s t long h f is in
-      stretched_went
+      went
       (record {
         widened = w;
         tracking = record { room = w.room; few = λ p. subst (λ (c : ℕ). c < 4294967295) (sym (stay_entries w.stayed)) (x.few p); filed = filed };
@@ -265,11 +237,8 @@ module _ {m e count : ℕ} {s t : List ℕ} {k : Classes} where
 abbrev pub FannedTo : ℕ → List ℕ → Classes → List ℕ → ℕ → List ℕ → ℕ → Type 0
 FannedTo n moves k cube i t c = (j : ℕ) → 0 ≤ j → j < i → Entered (stickers n) k (moved_by n (get_or moves j 0) cube) t c
 
--- none of them, one more, all
+-- one more of them, and all
 module _ {n e : ℕ} {moves t₀ : List ℕ} (cube : List ℕ) {count₀ : ℕ} {k : Classes} where
-  pub fan_none : {index : List ℕ} → Tracking (stickers n) count₀ t₀ index k → Going (stickers n) e (LeadsTo n moves cube) t₀ count₀ k (FannedTo n moves k cube 0) t₀ index count₀
-  fan_none x = record { widened = widen_none x.room; tracking = x; done = λ j a b. absurd (omega arith) }
-
   pub fan_more : {t t' index index' : List ℕ} {count count' i : ℕ} → Going (stickers n) e (LeadsTo n moves cube) t₀ count₀ k (FannedTo n moves k cube i) t index count
       → Going (stickers n) e (LeadsTo n moves cube) t count k (Entered (stickers n) k (moved_by n (get_or moves i 0) cube)) t' index' count'
       → Going (stickers n) e (LeadsTo n moves cube) t₀ count₀ k (FannedTo n moves k cube (i + 1)) t' index' count'
@@ -293,21 +262,17 @@ module _ {n e : ℕ} {moves t₀ : List ℕ} (cube : List ℕ) {count₀ : ℕ} 
             subst (λ (x : List ℕ). Entered (stickers n) k x t count) q (g.done p.at (omega arith) (omega (arith, p.within)));
       }
 
--- a candidate by its place
-pub lead_at : (n : ℕ) (moves cube : List ℕ) (i : ℕ) → i < length moves → (s : List ℕ) → s ≡ moved_by n (get_or moves i 0) cube → LeadsTo n moves cube s
-lead_at n moves cube i h s q = record { move = get_or moves i 0; candidate = member_at moves i 0 h; leads = q }
-
 -- the cube that a candidate leads to was entered
-module _ {n e count : ℕ} (i : ℕ) {moves t : List ℕ} {k : Classes} {t' index : List ℕ} {r : Stretch} where
-  pub child_entered : (x cube : List ℕ) → i < length moves → x ≡ moved_by n (get_or moves i 0) cube
+module _ {n e count : ℕ} (code : ℕ) {moves t : List ℕ} {k : Classes} {t' index : List ℕ} {r : Result ℕ Halt} where
+  pub child_entered : (x cube : List ℕ) → Candidate code moves → x ≡ moved_by n code cube
       → Stretched (stickers n) e (λ s. s ≡ x) t count k (Entered (stickers n) k x) t' index r
-      → Stretched (stickers n) e (LeadsTo n moves cube) t count k (Entered (stickers n) k (moved_by n (get_or moves i 0) cube)) t' index r
+      → Stretched (stickers n) e (LeadsTo n moves cube) t count k (Entered (stickers n) k (moved_by n code cube)) t' index r
   child_entered x cube h q w =
-      stretched_as (λ s z. lead_at n moves cube i h s (z ∙ q)) (λ c v d. subst (λ (y : List ℕ). Entered (stickers n) k y t' c) q d) w
+      stretched_as (λ s z. record { move = code; candidate = h; leads = z ∙ q }) (λ c v d. subst (λ (y : List ℕ). Entered (stickers n) k y t' c) q d) w
 
-  pub child_cube : (x y : List ℕ) → x ≡ y → Stretched (stickers n) e (LeadsTo n moves x) t count k (Entered (stickers n) k (moved_by n (get_or moves i 0) x)) t' index r
-      → Stretched (stickers n) e (LeadsTo n moves y) t count k (Entered (stickers n) k (moved_by n (get_or moves i 0) y)) t' index r
-  child_cube x y q w = subst (λ (z : List ℕ). Stretched (stickers n) e (LeadsTo n moves z) t count k (Entered (stickers n) k (moved_by n (get_or moves i 0) z)) t' index r) q w
+  pub child_cube : (x y : List ℕ) → x ≡ y → Stretched (stickers n) e (LeadsTo n moves x) t count k (Entered (stickers n) k (moved_by n code x)) t' index r
+      → Stretched (stickers n) e (LeadsTo n moves y) t count k (Entered (stickers n) k (moved_by n code y)) t' index r
+  child_cube x y q w = subst (λ (z : List ℕ). Stretched (stickers n) e (LeadsTo n moves z) t count k (Entered (stickers n) k (moved_by n code z)) t' index r) q w
 
 -- what is due at level 0 and at a later one
 module _ {n e : ℕ} {starts moves t : List ℕ} {at : ℕ} {s : List ℕ} where
@@ -317,21 +282,13 @@ module _ {n e : ℕ} {starts moves t : List ℕ} {at : ℕ} {s : List ℕ} where
   pub due_later : (e ≡ 0 → ⊥) → LeadsTo n moves (entry_key (stickers n) t at) s → Due n starts moves e t at s
   due_later f l = record { first = λ z. absurd (f z); later = λ g. l }
 
--- starting cube i lies within the starts, and is the part of them that is read
+-- starting cube i is the part of the starts that is read
 module _ (m i : ℕ) (starts : List ℕ) (some : 0 < m) (h : i < length starts / m) where
-  pub start_fits : i * m + m ≤ length starts
-  start_fits =
-      let q : suc i * m ≤ length starts = (le-div_iff_mul-le {k = m} {x = suc i} some).0 h in
-      omega (arith, suc-mul i m)
-
   pub start_is : take (i * m + m - i * m) (drop (i * m) starts) ≡ take m (drop (i * m) starts)
   start_is = let e : i * m + m - i * m ≡ m = omega arith in ap (λ (k : ℕ). take k (drop (i * m) starts)) e
 
-  pub start_long : length (take (i * m + m - i * m) (drop (i * m) starts)) ≡ m
-  start_long = ap length start_is ∙ length-take-le m (drop (i * m) starts) (omega (arith, start_fits, length-drop (i * m) starts))
-
 -- so entering it, or fanning the entry out, is what was due
-module _ {n e at : ℕ} (starts moves : List ℕ) {t : List ℕ} {count : ℕ} {k : Classes} {t' index : List ℕ} {r : Stretch} where
+module _ {n e at : ℕ} (starts moves : List ℕ) {t : List ℕ} {count : ℕ} {k : Classes} {t' index : List ℕ} {r : Result ℕ Halt} where
   pub visit_first : {x : List ℕ} → e ≡ 0 → x ≡ start_at n starts at
       → Stretched (stickers n) e (λ s. s ≡ x) t count k (Entered (stickers n) k x) t' index r
       → Stretched (stickers n) e (Due n starts moves e t at) t count k (SourceVisited n starts moves k e at) t' index r
@@ -357,27 +314,13 @@ module _ {n e e' : ℕ} {starts moves : List ℕ} {New : List ℕ → Type 0} {t
 pub placed_on : {n e : ℕ} {starts : List ℕ} {count count' append_last : ℕ} → count ≤ count' → SourcesThere n e starts count append_last → SourcesThere n e starts count' append_last
 placed_on h p = record { first = p.first; later = λ q. omega (arith, p.later q) }
 
-pub placed_at : {n e : ℕ} {starts : List ℕ} {count append_last at : ℕ} → at < append_last → SourcesThere n e starts count append_last → SourcesThere n e starts count (at + 1)
-placed_at h p = record { first = λ q. omega (arith, p.first q); later = λ q. omega (arith, p.later q) }
-
 -- what is due for a place was so from the start
 pub sweep_due : {n e from append_last : ℕ} {starts moves : List ℕ} {New : List ℕ → Type 0} {t₀ t : List ℕ} {count₀ count at : ℕ} → SourcesThere n e starts count₀ append_last
     → Widened (stickers n) e New t₀ count₀ t count → from ≤ at → at < append_last → (s : List ℕ) → Due n starts moves e t at s → Sourced n starts moves e from append_last t₀ s
 sweep_due {at = at} p w a b s d = record { at = at; low = a; high = b; due = due_back w p b d }
 
--- they are no more than the starting bytes or the entries
-pub placed_most : {n e : ℕ} (starts : List ℕ) {count append_last : ℕ} (most : ℕ) → SourcesThere n e starts count append_last → length starts ≤ most → count ≤ most → append_last ≤ most
-placed_most {n} {e} starts most p a b =
-    bool_cases (eqb e 0)
-    (λ q. omega (arith, p.first (eqb-true e 0 q), div-le_self (length starts) (stickers n)))
-    (λ q. omega (arith, p.later (eqb-false e 0 q)))
-
--- the places of a stage: none, one more, all of them
+-- the places of a stage: one more, all of them
 module _ {n e from append_last : ℕ} {starts moves t₀ : List ℕ} {count₀ : ℕ} {k : Classes} where
-  pub sweep_none : {index : List ℕ} → Tracking (stickers n) count₀ t₀ index k
-      → Going (stickers n) e (Sourced n starts moves e from append_last t₀) t₀ count₀ k (Swept n starts moves k e from from) t₀ index count₀
-  sweep_none x = record { widened = widen_none x.room; tracking = x; done = λ at a b. absurd (omega arith) }
-
   pub sweep_more : {t t' index index' : List ℕ} {count count' at : ℕ} → SourcesThere n e starts count₀ append_last → from ≤ at → at < append_last
       → Going (stickers n) e (Sourced n starts moves e from append_last t₀) t₀ count₀ k (Swept n starts moves k e from at) t index count
       → Going (stickers n) e (Due n starts moves e t at) t count k (SourceVisited n starts moves k e at) t' index' count'
@@ -392,12 +335,12 @@ module _ {n e from append_last : ℕ} {starts moves t₀ : List ℕ} {count₀ :
       }
 
   -- a place at which it did not come to its end
-  pub sweep_pass : {t t' index index' : List ℕ} {count at : ℕ} {r : Stretch} → SourcesThere n e starts count₀ append_last → from ≤ at → at < append_last
-      → Going (stickers n) e (Sourced n starts moves e from append_last t₀) t₀ count₀ k (Swept n starts moves k e from at) t index count → ((c : ℕ) → r ≡ Went c → ⊥)
-      → Stretched (stickers n) e (Due n starts moves e t at) t count k (SourceVisited n starts moves k e at) t' index' r
-      → Stretched (stickers n) e (Sourced n starts moves e from append_last t₀) t₀ count₀ k (Swept n starts moves k e from append_last) t' index' r
-  sweep_pass {at = at} p low lt g f x =
-      stretched_pass {Done = SourceVisited n starts moves k e at} g.widened f (stretched_as (sweep_due p g.widened low lt) (λ c w d. d) x)
+  pub sweep_pass : {t t' index index' : List ℕ} {count at : ℕ} {h : Halt} → SourcesThere n e starts count₀ append_last → from ≤ at → at < append_last
+      → Going (stickers n) e (Sourced n starts moves e from append_last t₀) t₀ count₀ k (Swept n starts moves k e from at) t index count
+      → Stretched (stickers n) e (Due n starts moves e t at) t count k (SourceVisited n starts moves k e at) t' index' (Err h)
+      → Stretched (stickers n) e (Sourced n starts moves e from append_last t₀) t₀ count₀ k (Swept n starts moves k e from append_last) t' index' (Err h)
+  sweep_pass {at = at} p low lt g x =
+      stretched_pass {Done = SourceVisited n starts moves k e at} g.widened (stretched_as (sweep_due p g.widened low lt) (λ c w d. d) x)
 
   pub sweep_all : {t index : List ℕ} {count at : ℕ} → append_last ≤ at
       → Going (stickers n) e (Sourced n starts moves e from append_last t₀) t₀ count₀ k (Swept n starts moves k e from at) t index count
@@ -405,20 +348,13 @@ module _ {n e from append_last : ℕ} {starts moves t₀ : List ℕ} {count₀ :
   sweep_all h g = record { widened = g.widened; tracking = g.tracking; done = λ at a b. g.done at a (omega arith) }
 
 -- a pass at the same stage with `count` entries
-module _ {n count : ℕ} (stage : Stage) {s : Stage} (q : s ≡ outgrown_stage stage count) where
-  pub pass_asked : {moves starts t : List ℕ} {next size : ℕ} {k : Classes} → MovesTurn n moves next → Passing (stickers n) count t size k
-      → SourcesThere n stage.number starts count stage.last
-      → MovesTurn n moves next × Passing (stickers n) s.count t size k × SourcesThere n s.number starts s.count s.last
-  pass_asked {moves} {starts} {t} {next} {size} {k} w a p =
-      subst (λ (x : Stage). MovesTurn n moves next × Passing (stickers n) x.count t size k × SourcesThere n x.number starts x.count x.last) (sym q) (w, a, p)
-
-  pub pass_told : {starts moves t t' index : List ℕ} {k : Classes} {r : Stretch}
-      → Stretched (stickers n) s.number (Source n starts moves s t) t s.count k (Swept n starts moves k s.number s.from s.last) t' index r
-      → Stretched (stickers n) stage.number (Source n starts moves stage t) t count k (Swept n starts moves k stage.number stage.from stage.last) t' index r
-  pass_told {starts} {moves} {t} {t'} {index} {k} {r} w =
-      subst
-      (λ (x : Stage). Stretched (stickers n) x.number (Source n starts moves x t) t x.count k (Swept n starts moves k x.number x.from x.last) t' index r)
-      q w
+pub pass_told : {n count : ℕ} {starts moves t t' index : List ℕ} {k : Classes} {r : Result ℕ Halt} (stage : Stage) {s : Stage} → s ≡ outgrown_stage stage count
+    → SweepTold n starts moves s k t t' index r
+    → Stretched (stickers n) stage.number (Source n starts moves stage t) t count k (Swept n starts moves k stage.number stage.from stage.last) t' index r
+pass_told {n} {count} {starts} {moves} {t} {t'} {index} {k} {r} stage q w =
+    subst
+    (λ (x : Stage). Stretched (stickers n) x.number (Source n starts moves x t) t x.count k (Swept n starts moves k x.number x.from x.last) t' index r)
+    q w
 
 -- a level by classes: what is due of the classes below `low` is there
 pub record Climbed (n : ℕ) (starts moves : List ℕ) (stage : Stage) (t₀ t : List ℕ) (count low : ℕ) : Type 0 where
@@ -426,9 +362,6 @@ pub record Climbed (n : ℕ) (starts moves : List ℕ) (stage : Stage) (t₀ t :
   pub done : (s : List ℕ) → Source n starts moves stage t s → class_of s < low → Present (entry_key (stickers n) t) count s
 
 module _ {n : ℕ} {starts moves t₀ : List ℕ} {stage : Stage} where
-  pub climb_none : stage.count ≤ entry_count (stickers n) t₀ → Climbed n starts moves stage t₀ t₀ stage.count 0
-  climb_none h = record { widened = widen_none h; done = λ s x lt. absurd (omega arith) }
-
   module _ (p : SourcesThere n stage.number starts stage.count stage.last) {t : List ℕ} {count low : ℕ} (g : Climbed n starts moves stage t₀ t count low)
       {t' : List ℕ} {c : ℕ} (w : Widened (stickers n) stage.number (Source n starts moves stage t) t count t' c) where
     -- what is due now was due from the start, and what will be due is due now
@@ -454,22 +387,9 @@ module _ {n : ℕ} {starts moves t₀ : List ℕ} {stage : Stage} where
               (λ ge. swept x.at x.low x.high s x.due (omega arith, lt));
         }
 
-  pub levelled_to : {t : List ℕ} {count low : ℕ} → Climbed n starts moves stage t₀ t count low → classes ≤ low → Levelled n starts moves stage t₀ t (To count)
-  levelled_to {t} {count} {low} g h =
-      record {
-        to = λ c e.
-            subst
-            (λ (j : ℕ). Widened (stickers n) stage.number (Source n starts moves stage t₀) t₀ stage.count t j × Covered n starts moves stage t j) (cc)
-            (g.widened, λ s x. g.done s x (omega (arith, class_most s)));
-        over = λ e. tags_differ (cc);
-      }
+  pub levelled_to : {t : List ℕ} {count low : ℕ} → Climbed n starts moves stage t₀ t count low → classes ≤ low → Levelled n starts moves stage t₀ t (Some count)
+  levelled_to g h = (g.widened, λ s x. g.done s x (omega (arith, class_most s)))
 
   pub levelled_over : {t t' : List ℕ} {count low : ℕ} → SourcesThere n stage.number starts stage.count stage.last → Climbed n starts moves stage t₀ t count low
-      → Outgrown (stickers n) stage.number (Source n starts moves stage t) t count t' → Levelled n starts moves stage t₀ t' Over
-  levelled_over p g o =
-      record { to = λ c e. tags_differ (cc); over = λ e. outgrown_on g.widened (outgrown_as (λ s x. sweep_due p g.widened x.low x.high s x.due) o) }
-
-  pub passing_on : {t : List ℕ} {count low size : ℕ} {k : Classes} → Climbed n starts moves stage t₀ t count low → run_length < size → size < 4294967296
-      → (k.plain ≡ false → entry_count (stickers n) t₀ < 4294967295) → Passing (stickers n) count t size k
-  passing_on g h e f =
-      record { room = g.widened.room; slots = h; size_few = e; few = λ q. subst (λ (j : ℕ). j < 4294967295) (sym (stay_entries g.widened.stayed)) (f q) }
+      → Outgrown (stickers n) stage.number (Source n starts moves stage t) t count t' → Levelled n starts moves stage t₀ t' None
+  levelled_over p g o = outgrown_on g.widened (outgrown_as (λ s x. sweep_due p g.widened x.low x.high s x.due) o)

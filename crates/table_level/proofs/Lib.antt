@@ -1,3 +1,2 @@
 pub mod SizeLaws
 pub mod LevelLaws
-pub mod Tags

@@ -1,5 +1,5 @@
 -- Inner contracts of a level of the builder. Entries stand in the order in which they were found; a level adds to their end.
-use Rattle.std.specs.Prelude.{ℕ, ◌+◌, ◌*◌, ◌/◌, ◌≤◌, ◌<◌, ◌≡◌, Bool, true, false, length, take, drop}
+use Rattle.std.specs.Prelude.{ℕ, ◌+◌, ◌*◌, ◌/◌, ◌≤◌, ◌<◌, ◌≡◌, true, false, Option, Some, None, Result, Ok, Err, length, take, drop}
 use mathlib.Core.List.{List, [], ◌∷◌, ◌++◌, Memᴰ}
 use Rattle.generic_cube.specs.Sizes.{stickers}
 use Rattle.generic_cube.specs.Code.{list_refusal}
@@ -9,10 +9,9 @@ use Rattle.table.specs.Table.{entry_count}
 use Rattle.key_index.specs.declared.Classes.{Classes}
 use Rattle.key_index.specs.InnerIndex.{run_length, classes, OfClasses, Indexed}
 use Rattle.search_theory.specs.CubeSearch.{moved_by}
-use Rattle.table_level.specs.declared.Stretch.{Stretch}
-use Rattle.table_level.specs.declared.Stretch.TheVariants.{Went, Crowded, Full}
-use Rattle.table_level.specs.declared.Growth.{Growth}
-use Rattle.table_level.specs.declared.Growth.TheVariants.{To, Over}
+use Rattle.key_index.specs.declared.RunFull.{RunFull}
+use Rattle.table_level.specs.declared.Halt.{Halt}
+use Rattle.table_level.specs.declared.Halt.TheVariants.{Crowded, Full}
 use Rattle.table_level.specs.declared.Stage.{Stage}
 
 -- the bytes of an entry
@@ -54,21 +53,30 @@ pub record Going (m e : ℕ) (New : List ℕ → Type 0) (t : List ℕ) (count :
   pub done : Done t' c
 
 -- all that can come of it
-pub record Stretched (m e : ℕ) (New : List ℕ → Type 0) (t : List ℕ) (count : ℕ) (k : Classes) (Done : List ℕ → ℕ → Type 0) (t' index' : List ℕ) (r : Stretch) : Type 0 where
-  pub went : (c : ℕ) → r ≡ Went c → Going m e New t count k Done t' index' c
-  pub crowded : (c : ℕ) → r ≡ Crowded c → Widened m e New t count t' c × (k.plain ≡ false)
-  pub full : r ≡ Full → Outgrown m e New t count t'
+pub data Stretched (m e : ℕ) (New : List ℕ → Type 0) (t : List ℕ) (count : ℕ) (k : Classes) (Done : List ℕ → ℕ → Type 0) (t' index' : List ℕ) : Result ℕ Halt → Type 0 where
+  went : {c : ℕ} → Going m e New t count k Done t' index' c → Stretched m e New t count k Done t' index' (Ok c)
+  crowded : {c : ℕ} → Widened m e New t count t' c → k.plain ≡ false → Stretched m e New t count k Done t' index' (Err (Crowded c))
+  full : Outgrown m e New t count t' → Stretched m e New t count k Done t' index' (Err Full)
 
 -- a state of the classes is there
 abbrev pub Entered : ℕ → Classes → List ℕ → List ℕ → ℕ → Type 0
 Entered m k s t c = OfClasses k s → Present (entry_key m t) c s
 
--- moves that can be done on cubes of that size, with room for a cube
-pub record MovesTurn (n : ℕ) (moves : List ℕ) (next : ℕ) : Type 0 where
+-- moves that can be done on cubes of that size
+pub record MovesTurn (n : ℕ) (moves : List ℕ) : Type 0 where
   pub some : 1 ≤ n
   pub size : n ≤ 7
   pub good : list_refusal n moves ≡ 0
-  pub next_long : next ≡ stickers n
+
+-- building a table of that depth
+pub record BuildReady (n depth : ℕ) (moves : List ℕ) : Type 0 where
+  pub turning : MovesTurn n moves
+  pub few : length moves ≤ 255
+  pub shallow : depth ≤ 20
+
+-- a code is one of the candidates
+abbrev pub Candidate : ℕ → List ℕ → Type 0
+Candidate code moves = Memᴰ code moves
 
 -- a candidate leads from a cube to s
 pub record LeadsTo (n : ℕ) (moves cube s : List ℕ) : Type 0 where
@@ -117,9 +125,14 @@ pub record Passing (m count : ℕ) (t : List ℕ) (size : ℕ) (k : Classes) : T
   pub size_few : size < 4294967296
   pub few : k.plain ≡ false → entry_count m t < 4294967295
 
-pub record Refiled (m count : ℕ) (t index' : List ℕ) (k : Classes) (r : Bool) : Type 0 where
-  pub yes : r ≡ true → Tracking m count t index' k
-  pub no : r ≡ false → k.plain ≡ false
+abbrev pub Refiled : ℕ → ℕ → List ℕ → List ℕ → Classes → Result (Unit {0}) RunFull → Type 0
+Refiled m count t index' k (Ok x) = Tracking m count t index' k
+Refiled m count t index' k (Err e) = k.plain ≡ false
+
+-- what comes of sweeping a stage
+abbrev pub SweepTold : ℕ → List ℕ → List ℕ → Stage → Classes → List ℕ → List ℕ → List ℕ → Result ℕ Halt → Type 0
+SweepTold n starts moves stage k t t' index' r =
+    Stretched (stickers n) stage.number (Source n starts moves stage t) t stage.count k (Swept n starts moves k stage.number stage.from stage.last) t' index' r
 
 -- a level by classes, that many at first, none for plainly
 pub record Climbing (m count : ℕ) (t : List ℕ) (size width : ℕ) : Type 0 where
@@ -133,9 +146,10 @@ pub record Climbing (m count : ℕ) (t : List ℕ) (size width : ℕ) : Type 0 w
 abbrev pub Covered : ℕ → List ℕ → List ℕ → Stage → List ℕ → ℕ → Type 0
 Covered n starts moves stage t c = (s : List ℕ) → Source n starts moves stage t s → Present (entry_key (stickers n) t) c s
 
-pub record Levelled (n : ℕ) (starts moves : List ℕ) (stage : Stage) (t t' : List ℕ) (r : Growth) : Type 0 where
-  pub to : (c : ℕ) → r ≡ To c → Widened (stickers n) stage.number (Source n starts moves stage t) t stage.count t' c × Covered n starts moves stage t' c
-  pub over : r ≡ Over → Outgrown (stickers n) stage.number (Source n starts moves stage t) t stage.count t'
+abbrev pub Levelled : ℕ → List ℕ → List ℕ → Stage → List ℕ → List ℕ → Option ℕ → Type 0
+Levelled n starts moves stage t t' (Some c) =
+    Widened (stickers n) stage.number (Source n starts moves stage t) t stage.count t' c × Covered n starts moves stage t' c
+Levelled n starts moves stage t t' None = Outgrown (stickers n) stage.number (Source n starts moves stage t) t stage.count t'
 
 -- the stage after a level that came to `count` entries; and the same one with `count` entries, for a large index
 abbrev pub next_stage : Stage → ℕ → Stage

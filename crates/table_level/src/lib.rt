@@ -2,37 +2,39 @@
 // Entries stay in the order in which they are found, and an index tells which states are there.
 #![tactic(auto)]
 
-ghost use Rattle.std.specs.Prelude.{◌≡◌, false, ◌+◌, ◌*◌, ◌≤◌, ◌<◌, length, get_or};
+ghost use Rattle.std.specs.Prelude.{◌≡◌, false, ◌+◌, ◌*◌, ◌≤◌, ◌<◌, length};
 ghost use Rattle.generic_cube.specs.Sizes.{stickers};
 ghost use Rattle.table.specs.Entries.{entry_key};
 ghost use Rattle.table.specs.Inner.{KeyLength, with_entry};
 ghost use Rattle.key_index.specs.InnerIndex.{classes};
 ghost use Rattle.search_theory.specs.CubeSearch.{moved_by};
-ghost use Rattle.table_level.specs.Inner.{entry_of, Tracking, Entered, Stretched, MovesTurn, LeadsTo, Fanned, Due, SourcesThere, SourceVisited, Source, Swept, Passing, Refiled, Climbing, Levelled, next_stage, outgrown_stage};
+ghost use Rattle.table_level.specs.Inner.{entry_of, Tracking, Entered, Stretched, SweepTold, BuildReady, Candidate, LeadsTo, Fanned, Due, SourcesThere, SourceVisited, Passing, Refiled, Climbing, Levelled, next_stage, outgrown_stage};
 
-use generic_cube::Code;
 use ground::codes::MoveCode;
-use key_index::{CLASSES, Classes, Found};
+use key_index::{CLASSES, Classes, Found, RunFull};
+use table::Entries;
 
-// What a stretch of a level came to: how many entries there are at its end, or where a run of the index was full, or the slice is full.
+// The table that is asked for: of the cubes of a size that candidates lead to from the starting cubes, by at most `depth` of them.
 #[derive(Clone, Copy)]
-pub enum Stretch {
-    Went(usize),
+pub struct Job<'a> {
+    pub n: usize,
+    pub starts: &'a [u8],
+    pub moves: &'a [MoveCode],
+    pub depth: u8,
+    ghost ready: { BuildReady n depth moves.now },
+}
+
+// Why a stretch of a level comes to no end: a run of the index is full, and so many entries are there; or the slice is full.
+#[derive(Clone, Copy, Debug, PartialEq, Eq)]
+pub enum Halt {
     Crowded(usize),
     Full,
 }
 
-// How many entries there are, or that they would not fit.
-#[derive(Clone, Copy)]
-pub enum Growth {
-    To(usize),
-    Over,
-}
-
 // Where building stands: the level whose entries get `number` is due, for the sources from `from` up to `last`; its entries begin at
 // `base`, and `count` are there. Sources are the starting cubes for level 0, else the entries of the level before. A small index serves
-// until it is outgrown.
-#[derive(Clone, Copy)]
+// until it is outgrown. `large` is a fact of its own beside numbers that hold either way, so an enum of two structs would say no more.
+#[derive(Clone, Copy, Debug, PartialEq, Eq)]
 pub struct Stage {
     pub number: u8,
     pub from: usize,
@@ -63,12 +65,9 @@ impl Stage {
         ensures { result ≡ outgrown_stage self count }
     {
         Stage {
-            number: self.number,
-            from: self.from,
-            last: self.last,
-            base: self.base,
             count,
             large: true,
+            ..self
         }
     }
 }
@@ -80,7 +79,7 @@ fn append(table: &mut [u8], m: usize, i: usize, key: &[u8], number: u8)
 {
     let from = i * (m + 1);
     let end = from + m;
-    ground::bytes::copy(key, &mut table[from..end]);
+    table[from..end].copy_from_slice(key);
     table[end] = number;
 }
 
@@ -93,240 +92,200 @@ fn enter(
     number: u8,
     index: &mut [u32],
     classes: Classes,
-) -> Stretch
+) -> Result<usize, Halt>
     requires { KeyLength m × (length key.now ≡ m) × Tracking m count table.old index.old classes }
     ensures { Stretched m number (λ s. s ≡ key.now) table.old count classes (Entered m classes key.now) table.new index.new result }
 {
-    let found = key_index::find(&table[..], m, count, key, &index[..], classes);
-    match found {
-        Found::Outside => Stretch::Went(count),
-        Found::Here => Stretch::Went(count),
-        Found::Lost => Stretch::Crowded(count),
-        Found::Gap(p) => {
-            if count == table.len() / (m + 1) {
-                return Stretch::Full;
-            }
-            append(table, m, count, key, number);
-            if classes.plain {
-                return Stretch::Went(count + 1);
-            }
-            index[p] = (count + 1) as u32;
-            Stretch::Went(count + 1)
-        }
+    let entries = Entries {
+        bytes: &table[..],
+        m,
+    };
+    let slot = match key_index::find(entries, count, key, &index[..], classes) {
+        Found::Here | Found::Outside => return Ok(count),
+        Found::Lost => return Err(Halt::Crowded(count)),
+        Found::Absent(slot) => slot,
+    };
+    if count == table.len() / (m + 1) {
+        return Err(Halt::Full);
     }
+    append(table, m, count, key, number);
+    if let Some(p) = slot {
+        index[p] = (count + 1) as u32;
+    }
+    Ok(count + 1)
 }
 
-// Enters the cube to which the i-th candidate leads from an entry.
+// Enters the cube to which a candidate leads from an entry.
 fn child(
     table: &mut [u8],
-    n: usize,
-    moves: &[MoveCode],
-    i: usize,
+    job: Job,
+    code: MoveCode,
     number: u8,
     count: usize,
     at: usize,
     next: &mut [u8],
     index: &mut [u32],
     classes: Classes,
-) -> Stretch
-    requires { MovesTurn n moves.now (length next.old) × Tracking (stickers n) count table.old index.old classes × (at < count) × (i < length moves.now) }
-    ensures { Stretched (stickers n) number (LeadsTo n moves.now (entry_key (stickers n) table.old at)) table.old count classes (Entered (stickers n) classes (moved_by n (get_or moves.now i 0) (entry_key (stickers n) table.old at))) table.new index.new result }
+) -> Result<usize, Halt>
+    requires { Candidate code job.moves.now × (length next.old ≡ stickers job.n) × Tracking (stickers job.n) count table.old index.old classes × (at < count) }
+    ensures { let n = job.entry.n in Stretched (stickers n) number (LeadsTo n job.entry.moves.now (entry_key (stickers n) table.old at)) table.old count classes (Entered (stickers n) classes (moved_by n code (entry_key (stickers n) table.old at))) table.new index.new result }
 {
-    let m = 6 * n * n;
-    let Code::Taken(turn) = generic_cube::read_code(moves[i]) else {
-        return Stretch::Full;
+    let m = 6 * job.n * job.n;
+    let turn = generic_cube::read_code(code).unwrap();
+    let entries = Entries {
+        bytes: &table[..],
+        m,
     };
-    facelet_letters::compute_permutation(n, turn, table::key_at(&table[..], m, at), next);
+    facelet_moves::compute_permutation(job.n, turn, entries.key(at), next);
     enter(table, m, count, &next[..], number, index, classes)
 }
 
 // Enters the cubes to which the candidates lead from an entry.
 fn fan(
     table: &mut [u8],
-    n: usize,
-    moves: &[MoveCode],
+    job: Job,
     number: u8,
     known: usize,
     at: usize,
     next: &mut [u8],
     index: &mut [u32],
     classes: Classes,
-) -> Stretch
-    requires { MovesTurn n moves.now (length next.old) × Tracking (stickers n) known table.old index.old classes × (at < known) }
-    ensures { Stretched (stickers n) number (LeadsTo n moves.now (entry_key (stickers n) table.old at)) table.old known classes (Fanned n moves.now classes (entry_key (stickers n) table.old at)) table.new index.new result }
+) -> Result<usize, Halt>
+    requires { (length next.old ≡ stickers job.n) × Tracking (stickers job.n) known table.old index.old classes × (at < known) }
+    ensures { let n = job.entry.n in let moves = job.entry.moves.now in Stretched (stickers n) number (LeadsTo n moves (entry_key (stickers n) table.old at)) table.old known classes (Fanned n moves classes (entry_key (stickers n) table.old at)) table.new index.new result }
 {
     let mut count = known;
-    let mut i = 0;
-    while i < moves.len() {
-        let r = child(table, n, moves, i, number, count, at, next, index, classes);
-        let Stretch::Went(c) = r else {
-            return r;
-        };
-        count = c;
-        i += 1;
+    for &code in job.moves {
+        count = child(table, job, code, number, count, at, next, index, classes)?;
     }
-    Stretch::Went(count)
+    Ok(count)
 }
 
 // Enters what is due for a source: the starting cube itself, or the cubes to which the candidates lead from the entry.
 fn visit(
     table: &mut [u8],
-    n: usize,
-    starts: &[u8],
-    moves: &[MoveCode],
+    job: Job,
     number: u8,
     count: usize,
     at: usize,
     next: &mut [u8],
     index: &mut [u32],
     classes: Classes,
-) -> Stretch
-    requires { MovesTurn n moves.now (length next.old) × Tracking (stickers n) count table.old index.old classes × SourcesThere n number starts.now count (at + 1) }
-    ensures { Stretched (stickers n) number (Due n starts.now moves.now number table.old at) table.old count classes (SourceVisited n starts.now moves.now classes number at) table.new index.new result }
+) -> Result<usize, Halt>
+    requires { (length next.old ≡ stickers job.n) × Tracking (stickers job.n) count table.old index.old classes × SourcesThere job.n number job.starts.now count (at + 1) }
+    ensures { let n = job.entry.n in let starts = job.entry.starts.now in let moves = job.entry.moves.now in Stretched (stickers n) number (Due n starts moves number table.old at) table.old count classes (SourceVisited n starts moves classes number at) table.new index.new result }
 {
     if number == 0 {
-        let m = 6 * n * n;
-        let from = at * m;
-        let to = from + m;
-        return enter(table, m, count, &starts[from..to], number, index, classes);
+        let m = 6 * job.n * job.n;
+        let start = &job.starts[at * m..at * m + m];
+        return enter(table, m, count, start, number, index, classes);
     }
-    fan(table, n, moves, number, count, at, next, index, classes)
+    fan(table, job, number, count, at, next, index, classes)
 }
 
 // Does that for the sources of a stage.
 pub fn sweep(
     table: &mut [u8],
-    n: usize,
-    starts: &[u8],
-    moves: &[MoveCode],
+    job: Job,
     stage: Stage,
     next: &mut [u8],
     index: &mut [u32],
     classes: Classes,
-) -> Stretch
-    requires { MovesTurn n moves.now (length next.old) × Tracking (stickers n) stage.count table.old index.old classes × SourcesThere n stage.number starts.now stage.count stage.last }
-    ensures { Stretched (stickers n) stage.number (Source n starts.now moves.now stage table.old) table.old stage.count classes (Swept n starts.now moves.now classes stage.number stage.from stage.last) table.new index.new result }
+) -> Result<usize, Halt>
+    requires { (length next.old ≡ stickers job.n) × Tracking (stickers job.n) stage.count table.old index.old classes × SourcesThere job.n stage.number job.starts.now stage.count stage.last }
+    ensures { SweepTold job.entry.n job.entry.starts.now job.entry.moves.now stage classes table.old table.new index.new result }
 {
-    let number = stage.number;
-    let last = stage.last;
     let mut count = stage.count;
-    let mut at = stage.from;
-    while at < last {
-        let r = visit(
-            table, n, starts, moves, number, count, at, next, index, classes,
-        );
-        let Stretch::Went(c) = r else {
-            return r;
-        };
-        count = c;
-        at += 1;
+    for at in stage.from..stage.last {
+        count = visit(table, job, stage.number, count, at, next, index, classes)?;
     }
-    Stretch::Went(count)
+    Ok(count)
 }
 
-// Files the first `count` entries of the classes anew, unless plainly; or a run was full.
-fn refile(table: &[u8], m: usize, count: usize, index: &mut [u32], classes: Classes) -> bool
-    requires { KeyLength m × Passing m count table.now (length index.old) classes }
-    ensures { Refiled m count table.now index.new classes result }
+// Files the first `count` entries of the classes anew, unless plainly.
+fn refile(
+    entries: Entries,
+    count: usize,
+    index: &mut [u32],
+    classes: Classes,
+) -> Result<(), RunFull>
+    requires { Passing entries.m count entries.bytes.now (length index.old) classes }
+    ensures { Refiled entries.entry.m count entries.entry.bytes.now index.new classes result }
 {
     if classes.plain {
-        return true;
+        return Ok(());
     }
-    key_index::clear(index);
-    key_index::file(table, m, count, index, classes)
+    index.fill(0);
+    key_index::file(entries, count, index, classes)
 }
 
 // Enters what is due at a stage, of some classes.
 fn pass(
     table: &mut [u8],
-    n: usize,
-    starts: &[u8],
-    moves: &[MoveCode],
+    job: Job,
     stage: Stage,
     next: &mut [u8],
     index: &mut [u32],
     classes: Classes,
-) -> Stretch
-    requires { MovesTurn n moves.now (length next.old) × Passing (stickers n) stage.count table.old (length index.old) classes × SourcesThere n stage.number starts.now stage.count stage.last }
-    ensures { Stretched (stickers n) stage.number (Source n starts.now moves.now stage table.old) table.old stage.count classes (Swept n starts.now moves.now classes stage.number stage.from stage.last) table.new index.new result }
+) -> Result<usize, Halt>
+    requires { (length next.old ≡ stickers job.n) × Passing (stickers job.n) stage.count table.old (length index.old) classes × SourcesThere job.n stage.number job.starts.now stage.count stage.last }
+    ensures { SweepTold job.entry.n job.entry.starts.now job.entry.moves.now stage classes table.old table.new index.new result }
 {
-    let count = stage.count;
-    if !refile(&table[..], 6 * n * n, count, index, classes) {
-        return Stretch::Crowded(count);
+    let entries = Entries {
+        bytes: &table[..],
+        m: 6 * job.n * job.n,
+    };
+    if let Err(RunFull) = refile(entries, stage.count, index, classes) {
+        return Err(Halt::Crowded(stage.count));
     }
-    sweep(table, n, starts, moves, stage, next, index, classes)
+    sweep(table, job, stage, next, index, classes)
 }
 
-// The classes from `low` on, that many of them; or all of them, plainly, where the width is 0.
+// The classes from `low` on, that many of them; or all of them, plainly, where the width is 0: halving a width ends there, so an
+// Option would be made of that number again.
 fn classes_from(low: usize, width: usize) -> Classes
     requires { (low < classes) × (width ≤ classes) }
     ensures { (result.low ≡ low) × (low < result.high) × (result.high ≤ classes) × (result.plain ≡ false → 0 < width) }
 {
-    if width == 0 {
-        return Classes {
-            low,
-            high: CLASSES,
-            plain: true,
-        };
-    }
-    if low + width < CLASSES {
-        return Classes {
-            low,
-            high: low + width,
-            plain: false,
-        };
-    }
-    Classes {
-        low,
-        high: CLASSES,
-        plain: false,
-    }
+    let plain = width == 0;
+    let high = if plain {
+        CLASSES
+    } else {
+        CLASSES.min(low + width)
+    };
+    Classes { low, high, plain }
 }
 
 // Enters all that is due at a stage, class by class, that many at first. Where an index is full fewer are taken, and at last each key is
-// looked for plainly.
+// looked for plainly. Tells how many entries there are, unless they would not fit.
 pub fn level(
     table: &mut [u8],
-    n: usize,
-    starts: &[u8],
-    moves: &[MoveCode],
+    job: Job,
     stage: Stage,
     start: usize,
     next: &mut [u8],
     index: &mut [u32],
-) -> Growth
-    requires { MovesTurn n moves.now (length next.old) × Climbing (stickers n) stage.count table.old (length index.old) start × SourcesThere n stage.number starts.now stage.count stage.last }
-    ensures { Levelled n starts.now moves.now stage table.old table.new result }
+) -> Option<usize>
+    requires { (length next.old ≡ stickers job.n) × Climbing (stickers job.n) stage.count table.old (length index.old) start × SourcesThere job.n stage.number job.starts.now stage.count stage.last }
+    ensures { Levelled job.entry.n job.entry.starts.now job.entry.moves.now stage table.old table.new result }
 {
     let mut count = stage.count;
     let mut width = start;
     let mut low = 0;
     while low < CLASSES {
         let classes = classes_from(low, width);
-        let high = classes.high;
-        let r = pass(
-            table,
-            n,
-            starts,
-            moves,
-            stage.outgrown(count),
-            next,
-            index,
-            classes,
-        );
-        match r {
-            Stretch::Full => {
-                return Growth::Over;
-            }
-            Stretch::Went(c) => {
+        let stage = stage.outgrown(count);
+        match pass(table, job, stage, next, index, classes) {
+            Ok(c) => {
                 count = c;
-                low = high;
+                low = classes.high;
             }
-            Stretch::Crowded(c) => {
+            Err(Halt::Crowded(c)) => {
                 count = c;
-                width = width / 2;
+                width /= 2;
             }
+            Err(Halt::Full) => return None,
         }
     }
-    Growth::To(count)
+    Some(count)
 }

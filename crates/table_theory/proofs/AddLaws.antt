@@ -7,7 +7,7 @@ use mathlib.Core.List.{List, [], ◌∷◌, Memᴰ}
 use native.Mathlib.Omega.{arith}
 use lib.ListN.{length, get_or}
 use Rattle.ground.proofs.ListLaws.{member_at}
-use Rattle.table.specs.declared.Order.TheVariants.{Less, Same}
+use Rattle.std.specs.declared.cmp.Ordering.TheVariants.{Less, Equal}
 use Rattle.table.specs.Order.{order_of}
 use Rattle.table.proofs.OrderLaws.{order_split, more_flip, less_trans}
 use Rattle.table.specs.Entries.{Rising}
@@ -29,7 +29,7 @@ module _ (x y : Entry) (ys : List Entry) where
   unfolding add
   add_less e = rw e
 
-  pub add_same : order_of y.key x.key ≡ Same → add x (y ∷ ys) ≡ y ∷ ys
+  pub add_same : order_of y.key x.key ≡ Equal → add x (y ∷ ys) ≡ y ∷ ys
   unfolding add
   add_same e = rw e
 

@@ -11,7 +11,7 @@ use lib.ListN.{length, get_or}
 use borrow.Author.Tests.{eqb-true, eq-eqb}
 use Rattle.ground.proofs.ChoiceLaws.{bool_cases}
 use Rattle.ground.proofs.ListLaws.{member_at, member_place}
-use Rattle.table.specs.declared.Order.TheVariants.{Less}
+use Rattle.std.specs.declared.cmp.Ordering.TheVariants.{Less}
 use Rattle.table.specs.Order.{order_of}
 use Rattle.table.proofs.OrderLaws.{order_split, same_eq, more_flip, less_trans, less_irrefl}
 use Rattle.search_theory.specs.Levels.{ReachIn, Least, Exact}

@@ -5,7 +5,7 @@ use mathlib.Core.Path.{◌≡◌, refl, sym, ap, subst, ◌∙◌}
 use mathlib.Core.List.{List}
 use native.Mathlib.Omega.{arith}
 use Rattle.ground.proofs.ChoiceLaws.{order_cases}
-use Rattle.table.specs.declared.Order.TheVariants.{Less}
+use Rattle.std.specs.declared.cmp.Ordering.TheVariants.{Less}
 use Rattle.table.specs.Order.{order_of}
 use Rattle.table.proofs.OrderLaws.{less_trans, less_irrefl}
 use Rattle.table.specs.Entries.{Rising, Present}

@@ -1,18 +1,27 @@
 -- The packing undone, and demand 3 of the exported functions' answers.
 use Prim.Native.Nat.{ℕ, zero, suc, ◌/◌, ◌%◌, ◌≤◌, ◌<◌}
 use mathlib.Core.Path.{◌≡◌, refl, sym, ap, subst, ◌∙◌}
-use mathlib.Core.Bool.{Bool, true, false, true≢false}
-use mathlib.Core.List.{List, [], ◌∷◌}
+use mathlib.Core.List.{List}
 use native.Mathlib.Omega.{arith}
-use lib.Dec.{eqb, leb}
 use lib.ListN.{length}
-use borrow.Author.Tests.{eqb-true, eqb-false, lt-ltb, leb-true}
-use Rattle.ground.specs.Choice.{pick}
-use Rattle.ground.specs.Refusals.{Row, lowest}
-use Rattle.ground.proofs.ChoiceLaws.{bool_cases}
-use Rattle.generic_cube.specs.declared.Answer.{Answer}
-use Rattle.generic_cube.specs.declared.Answer.TheVariants.{Value, Refused}
+use borrow.Author.Tests.{lt-ltb}
+use Rattle.std.specs.Prelude.{Option, Some, None, Result, Ok, Err}
+use Rattle.ground.specs.declared.refusals.Refusal.{Refusal}
+use Rattle.ground.specs.Refusals.{number_of, refusal}
+use Rattle.ground.proofs.RefusalLaws.{number_low}
+use Rattle.generic_cube.proofs.AnswerLaws.{ok_number, number_told}
 use Rattle.generic_cube.specs.Answers.{answer_no, answer_value}
+use Rattle.generic_cube.specs.AllMoves.{all_rows, all_refusal}
+use Rattle.generic_cube.specs.StickerIndex.{sticker_rows, sticker_refusal}
+use Rattle.move_lists.specs.Lists.{same_rows, same_refusal}
+use Rattle.scramble_writer.specs.Write.{write_rows, write_refusal}
+use Rattle.tokens.specs.Words.{tokens_of}
+use Rattle.scramble_parser.specs.Parse.{Reading, bad, read_answer, scramble_reading}
+use Rattle.scramble_parser.proofs.ParseLaws.{reading_listed}
+use Rattle.algorithm_parser.specs.Groups.{algorithm_reading}
+use Rattle.algorithm_parser.proofs.NumberLaws.{algorithm_listed}
+use Rattle.facelet_cube.specs.Apply.{apply_rows, apply_refusal}
+use Rattle.facelet_cube.specs.Cube.{cube_rows, cube_refusal, mask_rows, mask_refusal}
 use Rattle.table.proofs.TableLaws.{entries_most}
 use Rattle.generic_cube.specs.Sizes.{stickers}
 use Rattle.search_theory.specs.Search.{Reply, none, found, Task, passes, Best}
@@ -20,15 +29,13 @@ use Rattle.search_theory.proofs.SearchLaws.{never_found, else_found}
 use Rattle.search_theory.proofs.PathFreeLaws.{sound, dfs_start}
 use Rattle.search_theory.specs.CubeSearch.{CubeSearch, task_of}
 use Rattle.pruning_table.specs.PruningTable.{early_rows, early_refusal, PruningTableResult}
-use Rattle.ida_star.specs.declared.Outcome.{Outcome}
-use Rattle.ida_star.specs.declared.Outcome.TheVariants.{Found, Nothing}
-use Rattle.ida_star.specs.IdaStar.{reply, search_rows, search_refusal, outcome_no, outcome_value, outcome_of, IdaStarResult}
+use Rattle.ida_star.specs.IdaStar.{reply, search_rows, search_refusal, outcome_value, outcome_of, IdaStarResult}
 use Rattle.ida_star.proofs.IdaStarLaws.{search_taken}
 use Rattle.cubesim.specs.Pack.{pack}
 use Rattle.theorems.specs.Searching.{reply_told, Ran}
-use Rattle.theorems.specs.Boundary.{Fits, NumberBack, ValueBack, SearchCall, reply_read, TableRead, SearchTold, SearchRead, TableThenSearchRead}
-use Rattle.theorems.proofs.BuildingLaws.{result_cases, exact_result, built_admits}
-use Rattle.theorems.proofs.SearchingLaws.{ran_outcome, ran_told, best_answer}
+use Rattle.theorems.specs.Boundary.{Fits, NumberBack, ValueBack, SearchCall, reply_read, TableRead, SearchTold, SearchRead, TableThenSearchRead, ToldOf, NumbersTold}
+use Rattle.theorems.proofs.BuildingLaws.{exact_result, built_admits}
+use Rattle.theorems.proofs.SearchingLaws.{ran_told, best_answer}
 
 -- ---- the packing
 
@@ -47,45 +54,21 @@ number_is {r} {number} {value} e h f z = sym (ap (λ (x : ℕ). x % 256) e ∙ n
 value_is : {r number value : ℕ} → r ≡ pack number value → number < 256 → Fits value → r / 256 ≡ value
 value_is {r} {number} {value} e h f = ap (λ (x : ℕ). x / 256) e ∙ value_back number value h f
 
--- ---- refusals are small numbers
-
-abbrev rows_most : ℕ → List Row → Bool
-rows_most m [] = true
-rows_most m (r ∷ rows) = pick (leb r.number m) (rows_most m rows) false
-
-lowest_most : (m : ℕ) (rows : List Row) → rows_most m rows ≡ true → lowest rows ≤ m
-unfolding lowest
-lowest_most m [] e = omega arith
-lowest_most m (r ∷ rows) e =
-    bool_cases (leb r.number m)
-    (λ t. bool_cases r.applies (λ u. rw u (leb-true r.number m t)) (λ u. rw u (lowest_most m rows (rw t at e))))
-    (λ t. absurd (true≢false (sym (rw t at e))))
-
-early_most : (n starts : ℕ) (moves : List ℕ) (depth : ℕ) → early_refusal n starts moves depth ≤ 255
-unfolding early_refusal
-early_most n starts moves depth = lowest_most 255 (early_rows n starts moves depth) refl
-
-search_most : (q : CubeSearch) (work out : ℕ) → search_refusal q work out ≤ 255
-unfolding search_refusal
-search_most q work out = lowest_most 255 (search_rows q work out) refl
-
 -- ---- the builder's answer
+
+-- a refusal's number is not 0
+refused_0 : {A : Type 0} {r : ℕ} (k : Refusal) → r ≡ pack (number_of k) 0 → r % 256 ≡ 0 → A
+refused_0 k e z = let l = number_low k in absurd (omega (arith, l.0, number_is e (omega (arith, l.1)) (omega arith) z))
 
 pub table_read : TableRead
 table_read n starts moves depth table table' b f c z = go c.answer c.result c.packed
   where
-    go : (a : Answer) → PruningTableResult n starts moves depth table table' a → b ≡ pack (answer_no a) (answer_value a)
-        → PruningTableResult n starts moves depth table table' (Value (b / 256))
-    go (Value v) p e =
+    go : (a : Result ℕ Refusal) → PruningTableResult n starts moves depth table table' a → b ≡ pack (answer_no a) (answer_value a)
+        → PruningTableResult n starts moves depth table table' (Ok (b / 256))
+    go (Ok v) p e =
         let most : v ≤ length table = omega (arith, (exact_result p).room, entries_most (stickers n) table) in
-        subst (λ (k : ℕ). PruningTableResult n starts moves depth table table' (Value k)) (sym (value_is e (omega arith) (omega arith))) p
-    go (Refused k) p e =
-        result_cases p
-        (λ h r w.
-        let is : k ≡ early_refusal n (length starts) moves depth = cc in
-        absurd (h (sym is ∙ number_is e (omega (arith, early_most n (length starts) moves depth)) (omega arith) z)))
-        (λ h o r w. let is : k ≡ 6 = cc in absurd (let x = number_is e (omega arith) (omega arith) z in omega arith))
-        (λ h o r w. let y : ◌≡◌ {A = ℕ} 0 1 = cc in absurd (omega arith))
+        subst (λ (k : ℕ). PruningTableResult n starts moves depth table table' (Ok k)) (sym (value_is e (omega arith) (omega arith))) p
+    go (Err k) p e = refused_0 k e z
 
 -- ---- the search's answer
 
@@ -96,48 +79,43 @@ passes_short t zero s e = never_found e
 passes_short t (suc n) s e =
     else_found (passes t n s) e (λ h. omega (arith, passes_short t n s h)) (λ h g. omega (arith, (sound t n (sym (dfs_start t n s) ∙ g)).within))
 
-found_short : (q : CubeSearch) {k : ℕ} (x : Reply) → reply q ≡ x → Found k ≡ outcome_of x → k ≤ suc q.limit
+found_short : (q : CubeSearch) {k : ℕ} (x : Reply) → reply q ≡ x → Some k ≡ outcome_of x → k ≤ suc q.limit
 found_short q none d e = let z : ◌≡◌ {A = ℕ} 0 1 = cc in absurd (omega arith)
 found_short q {k} (found p) d e = let z : k ≡ length p = cc in omega (arith, passes_short (task_of q) (suc q.limit) q.cube d)
 
-never_refused : {k : ℕ} (x : Reply) → Outcome.Refused k ≡ outcome_of x → ⊥
-never_refused none d = let y : ◌≡◌ {A = ℕ} 0 1 = cc in omega arith
-never_refused (found p) d = let y : ◌≡◌ {A = ℕ} 0 1 = cc in omega arith
-
 -- number 0: a search that ended with this answer, which value and output tell
 pub record ReadRan (q : CubeSearch) (out' : List ℕ) (r : ℕ) : Type 0 where
-  pub given : Outcome
+  pub given : Result (Option ℕ) Refusal
   pub ran : Ran q out' given
   pub told : reply_read (r / 256) out' ≡ reply_told given out'
 
 module _ (q : CubeSearch) (work work' out out' : List ℕ) where
   -- an answer that is no refusal was given to a search that is taken
-  search_ran {ℓ} : {A : Type ℓ} (a : Outcome) → IdaStarResult q work work' out out' a → (Ran q out' a → A)
-      → ((k : ℕ) → a ≡ Outcome.Refused k → k ≤ 255 → (k ≡ 0 → ⊥) → A) → A
-  search_ran a p f g =
-      bool_cases (eqb (search_refusal q (length work) (length out)) 0)
-      (λ t. f (record { work = work; work' = work'; out = out; taken = eqb-true _ _ t; result = p }))
-      (λ t. g (search_refusal q (length work) (length out)) (rw t at p.answered) (search_most q (length work) (length out)) (eqb-false _ _ t))
+  search_ran : {o : Option ℕ} → IdaStarResult q work work' out out' (Ok o) → Ran q out' (Ok o)
+  search_ran p =
+      record {
+        work = work;
+        work' = work';
+        out = out;
+        taken = (ok_number (search_refusal q (length work) (length out)) (outcome_of (reply q)) p.answered).0;
+        result = p;
+      }
+
+  found_few : {k : ℕ} → IdaStarResult q work work' out out' (Ok (Some k)) → k ≤ 21
+  found_few p =
+      let a = ok_number (search_refusal q (length work) (length out)) (outcome_of (reply q)) p.answered in
+      let low = (search_taken q (length work) (length out) a.0).starting.low in
+      omega (arith, found_short q (reply q) refl a.1)
 
   pub read_ran : {r : ℕ} → SearchCall q work work' out out' r → r % 256 ≡ 0 → ReadRan q out' r
   read_ran {r} c z = go c.answer c.result c.packed
     where
-      go : (a : Outcome) → IdaStarResult q work work' out out' a → r ≡ pack (outcome_no a) (outcome_value a) → ReadRan q out' r
-      go (Found k) p e =
-          search_ran (Found k) p
-          (λ ran.
-          let short = found_short q (reply q) refl (ran_outcome ran) in
-          let low = (search_taken q (length ran.work) (length ran.out) ran.taken).starting.low in
-          record { given = Found k; ran = ran; told = ap (λ (v : ℕ). reply_read v out') (value_is e (omega arith) (omega arith)) })
-          (λ j is m h. let y : ◌≡◌ {A = ℕ} 0 1 = cc in absurd (omega arith))
-      go Nothing p e =
-          search_ran Nothing p
-          (λ ran. record { given = Nothing; ran = ran; told = ap (λ (v : ℕ). reply_read v out') (value_is e (omega arith) (omega arith)) })
-          (λ j is m h. let y : ◌≡◌ {A = ℕ} 0 1 = cc in absurd (omega arith))
-      go (Outcome.Refused k) p e =
-          search_ran (Outcome.Refused k) p
-          (λ ran. absurd (never_refused (reply q) (ran_outcome ran)))
-          (λ j is m h. let y : k ≡ j = cc in absurd (h (sym y ∙ number_is e (omega arith) (omega arith) z)))
+      go : (a : Result (Option ℕ) Refusal) → IdaStarResult q work work' out out' a → r ≡ pack (answer_no a) (outcome_value a) → ReadRan q out' r
+      go (Ok (Some k)) p e =
+          record { given = Ok (Some k); ran = search_ran p; told = ap (λ (v : ℕ). reply_read v out') (value_is e (omega arith) (omega (arith, found_few p))) }
+      go (Ok None) p e =
+          record { given = Ok None; ran = search_ran p; told = ap (λ (v : ℕ). reply_read v out') (value_is e (omega arith) (omega arith)) }
+      go (Err k) p e = refused_0 k e z
 
 pub search_told : SearchTold
 search_told q work work' out out' r c z = let x = read_ran q work work' out out' c z in x.told ∙ ran_told x.ran
@@ -151,3 +129,26 @@ pub table_then_search_read : TableThenSearchRead
 table_then_search_read q starts table table' b f c z is undo work work' out out' r d y =
     search_read q work work' out out' r d y
     (built_admits q starts table table' (b / 256) (table_read q.n starts q.candidates q.depth table table' b f c z) is undo)
+
+-- ---- the number in an answer
+
+told_of : (n : ℕ) (r : Reading) (room : ℕ) → ((k at : ℕ) → r ≡ bad k at → number_of (refusal k) ≡ k) → ToldOf n r room
+unfolding read_answer
+told_of n r room h k at s e = rw (s, e) (h k at e, refl)
+
+pub numbers_told : NumbersTold
+unfolding cube_refusal sticker_refusal mask_refusal apply_refusal all_refusal write_refusal same_refusal early_refusal search_refusal
+numbers_told =
+    record {
+      of_cube = λ n long. number_told (cube_rows n long) tt refl;
+      of_sticker = λ n face i. number_told (sticker_rows n face i) tt refl;
+      of_mask = λ n cube ids keep. number_told (mask_rows n cube ids keep) tt refl;
+      of_list = λ n cube work moves. number_told (apply_rows n cube work moves) tt refl;
+      of_all_moves = λ n room. number_told (all_rows n room) tt refl;
+      of_scramble = λ n text room. told_of n (scramble_reading n text) room (reading_listed n (tokens_of text));
+      of_algorithm = λ n text room. told_of n (algorithm_reading n text) room (algorithm_listed n text);
+      of_writer = λ n moves room. number_told (write_rows n moves room) tt refl;
+      of_same_length = λ n moves room. number_told (same_rows n moves room) tt refl;
+      of_table = λ n starts moves depth. number_told (early_rows n starts moves depth) tt refl;
+      of_search = λ q work out. number_told (search_rows q work out) tt refl;
+    }

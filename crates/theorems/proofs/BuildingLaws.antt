@@ -11,12 +11,14 @@ use lib.Dec.{eqb}
 use lib.ListN.{length, take, drop, replicate}
 use lib.Seq.{take_at}
 use borrow.Author.Tests.{eqb-true, eqb-false, ltb-true, ltb-false}
+use Rattle.std.specs.Prelude.{Result, Ok, Err}
+use Rattle.ground.specs.declared.refusals.Refusal.{Refusal}
+use Rattle.ground.specs.declared.refusals.Refusal.TheVariants.{Room, Level}
+use Rattle.ground.proofs.RefusalLaws.{number_only}
 use Rattle.ground.specs.Choice.{pick, any, all}
 use Rattle.ground.specs.Lists.{over}
-use Rattle.ground.specs.Refusals.{Row, lowest}
+use Rattle.ground.specs.Refusals.{Row, lowest, refusal}
 use Rattle.ground.proofs.ChoiceLaws.{bool_cases}
-use Rattle.generic_cube.specs.declared.Answer.{Answer}
-use Rattle.generic_cube.specs.declared.Answer.TheVariants.{Value, Refused}
 use Rattle.generic_cube.specs.Sizes.{stickers}
 use Rattle.generic_cube.specs.Code.{code_of, move_of}
 use Rattle.move_lists.specs.Lists.{Turned, inverse_of}
@@ -60,14 +62,17 @@ early_not_six : (n starts : ℕ) (moves : List ℕ) (depth : ℕ) → early_refu
 unfolding early_refusal
 early_not_six n starts moves depth e = lowest-avoids 6 (early_rows n starts moves depth) (λ z. omega arith) refl e
 
+room_no_level : Room ≡ Level → ⊥
+room_no_level e = let z : ◌≡◌ {A = ℕ} 0 1 = cc in omega arith
+
 module _ {n : ℕ} {starts moves : List ℕ} {depth : ℕ} {t t' : List ℕ} where
   -- the three ways in which a call ends
-  pub result_cases {ℓ} : {A : Type ℓ} {r : Answer} → PruningTableResult n starts moves depth t t' r
-      → ((early_refusal n (length starts) moves depth ≡ 0 → ⊥) → r ≡ Refused (early_refusal n (length starts) moves depth) → t' ≡ t → A)
-      → (early_refusal n (length starts) moves depth ≡ 0 → entry_count (stickers n) t < length (table_of n starts moves depth) → r ≡ Refused 6
+  pub result_cases {ℓ} : {A : Type ℓ} {r : Result ℕ Refusal} → PruningTableResult n starts moves depth t t' r
+      → ((early_refusal n (length starts) moves depth ≡ 0 → ⊥) → r ≡ Err (refusal (early_refusal n (length starts) moves depth)) → t' ≡ t → A)
+      → (early_refusal n (length starts) moves depth ≡ 0 → entry_count (stickers n) t < length (table_of n starts moves depth) → r ≡ Err Room
       → t' ≡ replicate (length t) 0 → A)
       → (early_refusal n (length starts) moves depth ≡ 0 → length (table_of n starts moves depth) ≤ entry_count (stickers n) t
-      → r ≡ Value (length (table_of n starts moves depth)) → t' ≡ over (bytes (table_of n starts moves depth)) t → A)
+      → r ≡ Ok (length (table_of n starts moves depth)) → t' ≡ over (bytes (table_of n starts moves depth)) t → A)
       → A
   unfolding pruning_out
   result_cases p f g h =
@@ -82,7 +87,7 @@ module _ {n : ℕ} {starts moves : List ℕ} {depth : ℕ} {t t' : List ℕ} whe
       f z (rw (refusal_early n starts moves depth t z, e) at p.answered) (rw e at p.left))
 
   -- a table is built of cubes of size 1 or more
-  result_some : {count : ℕ} → PruningTableResult n starts moves depth t t' (Value count) → 1 ≤ n
+  result_some : {count : ℕ} → PruningTableResult n starts moves depth t t' (Ok count) → 1 ≤ n
   result_some p =
       result_cases p
       (λ e r w. let z : ◌≡◌ {A = ℕ} 0 1 = cc in absurd (omega arith))
@@ -90,7 +95,7 @@ module _ {n : ℕ} {starts moves : List ℕ} {depth : ℕ} {t t' : List ℕ} whe
       (λ e o r w. (early_ready n (length starts) moves depth e).turning.some)
 
   -- a count: the buffer meets the rule
-  pub exact_result : {count : ℕ} → PruningTableResult n starts moves depth t t' (Value count) → Exactly n starts moves depth t t' count
+  pub exact_result : {count : ℕ} → PruningTableResult n starts moves depth t t' (Ok count) → Exactly n starts moves depth t t' count
   exact_result {count} p =
       result_cases p
       (λ e r w. let z : ◌≡◌ {A = ℕ} 0 1 = cc in absurd (omega arith))
@@ -103,34 +108,34 @@ module _ {n : ℕ} {starts moves : List ℕ} {depth : ℕ} {t t' : List ℕ} whe
       (over_exact n starts moves depth (omega arith) t o)))
 
   -- 6: the states outnumber the entries that fit, and the whole buffer is zero
-  full_result : PruningTableResult n starts moves depth t t' (Refused 6)
+  full_result : PruningTableResult n starts moves depth t t' (Err Room)
       → Outnumber n starts moves depth (entry_count (stickers n) t) × (t' ≡ replicate (length t) 0)
   full_result p =
       result_cases p
-      (λ e r w. let z : 6 ≡ early_refusal n (length starts) moves depth = cc in absurd (early_not_six n (length starts) moves depth (sym z)))
+      (λ e r w. let z : Room ≡ refusal (early_refusal n (length starts) moves depth) = cc in absurd (early_not_six n (length starts) moves depth (number_only _ Room (sym z) room_no_level)))
       (λ e o r w.
       let some = cube_some (early_ready n (length starts) moves depth e).turning.some in
       (outnumbers n starts moves depth (omega arith) o, w))
       (λ e o r w. let z : ◌≡◌ {A = ℕ} 0 1 = cc in absurd (omega arith))
 
   -- any other refusal changes nothing
-  kept_result : {k : ℕ} → (k ≡ 6 → ⊥) → PruningTableResult n starts moves depth t t' (Refused k) → t' ≡ t
+  kept_result : {k : Refusal} → (k ≡ Room → ⊥) → PruningTableResult n starts moves depth t t' (Err k) → t' ≡ t
   kept_result {k} h p =
       result_cases p
       (λ e r w. w)
-      (λ e o r w. let z : k ≡ 6 = cc in absurd (h z))
+      (λ e o r w. let z : k ≡ Room = cc in absurd (h z))
       (λ e o r w. let z : ◌≡◌ {A = ℕ} 0 1 = cc in absurd (omega arith))
 
   -- and where nothing else is refused it is 6 exactly if they outnumber them
-  module _ {r : Answer} (e : early_refusal n (length starts) moves depth ≡ 0) (p : PruningTableResult n starts moves depth t t' r) where
-    full_if : Outnumber n starts moves depth (entry_count (stickers n) t) → r ≡ Refused 6
+  module _ {r : Result ℕ Refusal} (e : early_refusal n (length starts) moves depth ≡ 0) (p : PruningTableResult n starts moves depth t t' r) where
+    full_if : Outnumber n starts moves depth (entry_count (stickers n) t) → r ≡ Err Room
     full_if o =
         result_cases p
         (λ f q w. absurd (f e))
         (λ z l q w. q)
         (λ z l q w. absurd (none_fits (exact_result (subst (PruningTableResult n starts moves depth t t') q p)) o))
 
-    built_if : (Outnumber n starts moves depth (entry_count (stickers n) t) → ⊥) → r ≡ Value (length (table_of n starts moves depth))
+    built_if : (Outnumber n starts moves depth (entry_count (stickers n) t) → ⊥) → r ≡ Ok (length (table_of n starts moves depth))
     built_if h =
         result_cases p
         (λ f q w. absurd (f e))
@@ -140,7 +145,7 @@ module _ {n : ℕ} {starts moves : List ℕ} {depth : ℕ} {t t' : List ℕ} whe
         (λ z l q w. q)
 
   -- the used part is the table's bytes, as the search takes them
-  used_part : {count : ℕ} → PruningTableResult n starts moves depth t t' (Value count) → take (count * (stickers n + 1)) t' ≡ bytes (table_of n starts moves depth)
+  used_part : {count : ℕ} → PruningTableResult n starts moves depth t t' (Ok count) → take (count * (stickers n + 1)) t' ≡ bytes (table_of n starts moves depth)
   used_part {count} p =
       result_cases p
       (λ e r w. let z : ◌≡◌ {A = ℕ} 0 1 = cc in absurd (omega arith))

@@ -107,7 +107,7 @@ same_lists q e = (λ one p. (none_lost q p, back one p), forth)
 pub same_answer : SameAnswer
 same_answer q work work' out out' r c z one =
     let ran = (read_ran q work work' out out' c z).ran in
-    let taken = (search_taken q (length ran.work) (length ran.out) ran.taken).starting.given.listed in
+    let taken = (search_taken q (length ran.work) (length ran.out) ran.taken).given.listed in
     search_told q work work' out out' r c z ∙ sym (rule_passes (task_of q) same_kind (rules_agree q.n taken one) (suc q.limit) q.cube)
 
 pub two_widths : TwoWidths

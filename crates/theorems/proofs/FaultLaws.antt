@@ -9,13 +9,17 @@ use lib.Dec.{eqb, ltb}
 use lib.ListN.{length, get_or, take, drop, length-append, length-drop, take-append-drop}
 use lib.Seq.{drop-cons, get_or-drop, get_or-append_seam, get_or-append-add, length-take-le}
 use borrow.Author.Tests.{ne_eqb, lt-ltb, le-leb, leb-true, eqb-true, eqb-false, ltb-true, leb-false, not-true}
+use Rattle.std.specs.Prelude.{Result, Ok, Err}
+use Rattle.ground.specs.declared.refusals.Refusal.{Refusal}
+use Rattle.ground.specs.declared.refusals.Refusal.TheVariants.{Level}
+use Rattle.ground.specs.Refusals.{number_of, refusal}
+use Rattle.ground.proofs.RefusalLaws.{refusal_back, number_only}
+use Rattle.tokens.specs.declared.Fault.{Fault}
 use Rattle.ground.specs.Choice.{pick, between}
 use Rattle.ground.proofs.ChoiceLaws.{bool_cases, less_cases}
 use Rattle.generic_cube.specs.declared.Move.{Move}
 use Rattle.generic_cube.specs.Code.{code_of, bad_width_in}
-use Rattle.tokens.specs.declared.Token.{Token}
-use Rattle.tokens.specs.declared.Token.TheVariants.{Is, Not}
-use Rattle.tokens.specs.Token.{digit_of, is_digit, digits_of, token_width, kind_letters, letter_of, letter_at, is_wide_token, mark_of, suffix_at, token_end, token_move, bad_digits, no_letter, no_w, bytes_left, read_behind, read_token}
+use Rattle.tokens.specs.Token.{fault, digit_of, is_digit, digits_of, token_width, kind_letters, letter_of, letter_at, is_wide_token, mark_of, suffix_at, token_end, token_move, bad_digits, no_letter, no_w, bytes_left, read_behind, read_token}
 use Rattle.tokens.specs.Inner.{Lettered}
 use Rattle.tokens.specs.Words.{Run}
 use Rattle.tokens.proofs.TokenLaws.{digit_back, wide_letter, digits_parts, parts_digits, letter_parts, parts_letter, w_parts, end_left, Formed, formed_by, stands, letter_stands, DigitsEnd, digits_end, end_within, suffix_wide, suffix_plain, face_letter, out_digits, out_letter, out_w, out_left}
@@ -53,12 +57,12 @@ not_digit rest h =
     (λ a. let d = digit_back (get_or rest 0 0) (is_a_digit rest 0 a) in absurd (h (digit_of (get_or rest 0 0)) d.1 d.0))
     (λ a. a)
 
-zero_refused : (n : ℕ) (rest : List ℕ) → read_token n (48 ∷ rest) ≡ Not 13 0
+zero_refused : (n : ℕ) (rest : List ℕ) → read_token n (48 ∷ rest) ≡ Err (fault 13 0)
 unfolding read_token bad_digits
 zero_refused n rest = sym (out_digits n (48 ∷ rest) (digits_of (48 ∷ rest)) refl)
 
 four_refused : (n a b c d : ℕ) (rest : List ℕ) → a < 10 → b < 10 → c < 10 → d < 10
-    → read_token n ((48 + a) ∷ (48 + b) ∷ (48 + c) ∷ (48 + d) ∷ rest) ≡ Not 13 0
+    → read_token n ((48 + a) ∷ (48 + b) ∷ (48 + c) ∷ (48 + d) ∷ rest) ≡ Err (fault 13 0)
 unfolding read_token bad_digits digits_of
 four_refused n a b c d rest ha hb hc hd =
     let t : List ℕ = (48 + a) ∷ (48 + b) ∷ (48 + c) ∷ (48 + d) ∷ rest in
@@ -66,7 +70,7 @@ four_refused n a b c d rest ha hb hc hd =
     ap (read_behind n t) k ∙ sym (out_digits n t 4 (bool_cases (eqb (48 + a) 48) (λ u. rw u) (λ u. rw u)))
 
 module _ (n : ℕ) {ds : List ℕ} {w : ℕ} (d : Width ds w) where
-  letter_refused : (rest : List ℕ) → NoDigit rest → NoneOf (pick (eqb (length ds) 0) 9 6) rest → read_token n (ds ++ rest) ≡ Not 12 (length ds)
+  letter_refused : (rest : List ℕ) → NoDigit rest → NoneOf (pick (eqb (length ds) 0) 9 6) rest → read_token n (ds ++ rest) ≡ Err (fault 12 (length ds))
   unfolding read_token no_letter
   letter_refused rest h none =
       let t : List ℕ = ds ++ rest in
@@ -80,7 +84,7 @@ module _ (n : ℕ) {ds : List ℕ} {w : ℕ} (d : Width ds w) where
       (λ ge. ge) in
       ap (read_behind n t) r.count ∙ sym (out_letter n t k (parts_digits t k r.first r.few) (le-leb _ (letter_at t k) no))
 
-  w_refused : (p : ℕ) (rest : List ℕ) → p < 6 → 0 < length ds → (get_or rest 0 0 ≡ 119 → ⊥) → read_token n (ds ++ (get_or kind_letters p 0 ∷ rest)) ≡ Not 14 (length ds + 1)
+  w_refused : (p : ℕ) (rest : List ℕ) → p < 6 → 0 < length ds → (get_or rest 0 0 ≡ 119 → ⊥) → read_token n (ds ++ (get_or kind_letters p 0 ∷ rest)) ≡ Err (fault 14 (length ds + 1))
   unfolding read_token is_wide_token
   w_refused p rest h some z =
       let t : List ℕ = ds ++ (get_or kind_letters p 0 ∷ rest) in
@@ -94,7 +98,7 @@ module _ (n : ℕ) {ds : List ℕ} {w : ℕ} (d : Width ds w) where
       ap (read_behind n t) r.count ∙ sym (out_w n t k f v (λ q. omega arith))
 
   wide_refused : (p : ℕ) {i : ℕ} (rest : List ℕ) → p < 6 → ByteLeft i rest
-      → read_token n (ds ++ (get_or kind_letters p 0 ∷ 119 ∷ rest)) ≡ Not 14 (length ds + 2 + i)
+      → read_token n (ds ++ (get_or kind_letters p 0 ∷ 119 ∷ rest)) ≡ Err (fault 14 (length ds + 2 + i))
   unfolding read_token is_wide_token
   wide_refused p {i} rest h x =
       let more : List ℕ = get_or kind_letters p 0 ∷ 119 ∷ rest in
@@ -113,10 +117,10 @@ module _ (n : ℕ) {ds : List ℕ} {w : ℕ} (d : Width ds w) where
       let m : (mark_of (get_or t (k + 2) 0)).size ≡ i = ap (λ (b : ℕ). (mark_of b).size) g2 ∙ z.0 in
       ap (read_behind n t) r.count
       ∙ sym (out_left n t k f q (suffix_wide t k v) {mark = mark_of (get_or t (k + 2) 0)} refl (λ y. omega (arith, m, e, y, z.1)))
-      ∙ ap (λ (j : ℕ). Not 14 (k + 2 + j)) m
+      ∙ ap (λ (j : ℕ). Err (fault 14 (k + 2 + j))) m
 
 plain_refused : (n p : ℕ) {i : ℕ} (rest : List ℕ) → p < 9 → (p < 6 → get_or rest 0 0 ≡ 119 → ⊥) → ByteLeft i rest
-    → read_token n (get_or kind_letters p 0 ∷ rest) ≡ Not 14 (1 + i)
+    → read_token n (get_or kind_letters p 0 ∷ rest) ≡ Err (fault 14 (1 + i))
 unfolding read_token is_wide_token
 plain_refused n p {i} rest h other x =
     let t : List ℕ = get_or kind_letters p 0 ∷ rest in
@@ -129,9 +133,9 @@ plain_refused n p {i} rest h other x =
     ap (read_behind n t) r.count
     ∙ sym (out_left n t 0 f (λ y. refl) (suffix_plain t 0 v) {mark = mark_of (get_or rest 0 0)} refl
     (λ y. let s : suc (length rest) ≡ 1 + (mark_of (get_or rest 0 0)).size = y in omega (arith, z.0, z.1)))
-    ∙ ap (λ (j : ℕ). Not 14 (1 + j)) z.0
+    ∙ ap (λ (j : ℕ). Err (fault 14 (1 + j))) z.0
 
-fault_refused : (n k p : ℕ) (t : List ℕ) → Faulty k p t → read_token n t ≡ Not k p
+fault_refused : (n k p : ℕ) (t : List ℕ) → Faulty k p t → read_token n t ≡ Err (fault k p)
 fault_refused n _ _ _ (zero_first rest) = zero_refused n rest
 fault_refused n _ _ _ (four_digits a b c d rest ha hb hc hd) = four_refused n a b c d rest ha hb hc hd
 fault_refused n _ _ _ (no_letter_here rest d h none) = letter_refused n d rest h none
@@ -291,42 +295,64 @@ no_5 _ _ _ (no_w_here p rest h d some z) e = omega arith
 no_5 _ _ _ (plain_left p rest h z x) e = omega arith
 no_5 _ _ _ (wide_left p rest h d x) e = omega arith
 
+-- a number of the table that is not its last, so that no other has the same refusal
+pub record Named (k : ℕ) : Type 0 where
+  pub number : number_of (refusal k) ≡ k
+  pub other : refusal k ≡ Level → ⊥
+
+named_5 : Named 5
+named_5 = record { number = refl; other = λ e. let z : ◌≡◌ {A = ℕ} 0 1 = cc in omega arith }
+
 -- a token of the grammar has no fault
 no_fault : (t : List ℕ) (m : Move) → HasFault t → Shaped t m → ⊥
 no_fault t m (k, p, f) s = go (bad_width_in 2 (0 - 1) m) (sym (shaped_reads 0 s) ∙ fault_refused 0 k p t f)
   where
-    go : (b : Bool) → pick b (Not 5 0) (Is (code_of m)) ≡ Not k p → ⊥
-    go true q = let z : 5 ≡ k = cc in no_5 k p t f (sym z)
+    go : (b : Bool) → ◌≡◌ {A = Result ℕ Fault} (pick b (Err (fault 5 0)) (Ok (code_of m))) (Err (fault k p)) → ⊥
+    go true q = let z : fault 5 0 ≡ fault k p = cc in no_5 k p t f (number_only k (refusal 5) (sym (ap (λ (x : Fault). x.refusal) z)) (named_5).other)
     go false q = let z : ◌≡◌ {A = ℕ} 0 1 = cc in omega arith
 
 pub fault_found : FaultFound
 fault_found t =
     (λ h. fault_cases t (λ f. f) (λ g. absurd (h (token_move t (digits_of t)) (formed_shaped t g))), λ f m s. no_fault t m f s)
 
-refusing_as : {n k k' p p' : ℕ} {t : List ℕ} → Not k p ≡ Not k' p' → Refusing n k p t → Refusing n k' p' t
-refusing_as {n} {k} {k'} {p} {p'} {t} e f =
-    let a : k ≡ k' = cc in
-    let b : p ≡ p' = cc in
+named : (k p : ℕ) (t : List ℕ) → Faulty k p t → Named k
+named _ _ _ (zero_first rest) = record { number = refl; other = λ e. let z : ◌≡◌ {A = ℕ} 0 1 = cc in omega arith }
+named _ _ _ (four_digits a b c d rest ha hb hc hd) = record { number = refl; other = λ e. let z : ◌≡◌ {A = ℕ} 0 1 = cc in omega arith }
+named _ _ _ (no_letter_here rest d h none) = record { number = refl; other = λ e. let z : ◌≡◌ {A = ℕ} 0 1 = cc in omega arith }
+named _ _ _ (no_w_here p rest h d some z) = record { number = refl; other = λ e. let z : ◌≡◌ {A = ℕ} 0 1 = cc in omega arith }
+named _ _ _ (plain_left p rest h z x) = record { number = refl; other = λ e. let z : ◌≡◌ {A = ℕ} 0 1 = cc in omega arith }
+named _ _ _ (wide_left p rest h d x) = record { number = refl; other = λ e. let z : ◌≡◌ {A = ℕ} 0 1 = cc in omega arith }
+
+refusing_named : (n k p : ℕ) (t : List ℕ) → Refusing n k p t → Named k
+refusing_named n k p t (for_fault f) = named k p t f
+refusing_named n _ _ t (for_width m s z) = named_5
+
+refusing_as : {n k k' p p' : ℕ} {t : List ℕ} → Named k → ◌≡◌ {A = Result ℕ Fault} (Err (fault k p)) (Err (fault k' p')) → Refusing n k p t
+    → Refusing n k' p' t
+refusing_as {n} {k} {k'} {p} {p'} {t} d e f =
+    let z : fault k p ≡ fault k' p' = cc in
+    let a : k ≡ k' = sym (number_only k' (refusal k) (sym (ap (λ (x : Fault). x.refusal) z)) d.other ∙ d.number) in
+    let b : p ≡ p' = ap (λ (x : Fault). x.place) z in
     subst (λ (x : ℕ). Refusing n x p' t) a (subst (λ (x : ℕ). Refusing n k x t) b f)
 
-refused_why : (n : ℕ) (t : List ℕ) (k p : ℕ) → read_token n t ≡ Not k p → Refusing n k p t
+refused_why : (n : ℕ) (t : List ℕ) (k p : ℕ) → read_token n t ≡ Err (fault k p) → Refusing n k p t
 refused_why n t k p e =
     fault_cases t
-    (λ f. refusing_as (sym (fault_refused n f.0 f.1 t f.2) ∙ e) (for_fault f.2))
+    (λ f. refusing_as (named f.0 f.1 t f.2) (sym (fault_refused n f.0 f.1 t f.2) ∙ e) (for_fault f.2))
     (λ g.
     let m : Move = token_move t (digits_of t) in
     let s = formed_shaped t g in
     bool_cases (bad_width_in 2 (n - 1) m)
     (λ b.
-    let q : Not 5 0 ≡ Not k p = rw b at (sym (shaped_reads n s) ∙ e) in
-    refusing_as q (for_width m s (λ w. true≢false (sym b ∙ taken_width n m w))))
+    let q : ◌≡◌ {A = Result ℕ Fault} (Err (fault 5 0)) (Err (fault k p)) = rw b at (sym (shaped_reads n s) ∙ e) in
+    refusing_as named_5 q (for_width m s (λ w. true≢false (sym b ∙ taken_width n m w))))
     (λ b.
-    let q : Is (code_of m) ≡ Not k p = rw b at (sym (shaped_reads n s) ∙ e) in
+    let q : ◌≡◌ {A = Result ℕ Fault} (Ok (code_of m)) (Err (fault k p)) = rw b at (sym (shaped_reads n s) ∙ e) in
     let z : ◌≡◌ {A = ℕ} 0 1 = cc in absurd (omega arith)))
 
-why_refused : (n k p : ℕ) (t : List ℕ) → Refusing n k p t → read_token n t ≡ Not k p
+why_refused : (n k p : ℕ) (t : List ℕ) → Refusing n k p t → read_token n t ≡ Err (fault k p)
 why_refused n k p t (for_fault f) = fault_refused n k p t f
-why_refused n _ _ t (for_width m s z) = shaped_reads n s ∙ ap (λ (b : Bool). pick b (Not 5 0) (Is (code_of m))) (width_refused n m z)
+why_refused n _ _ t (for_width m s z) = shaped_reads n s ∙ ap (λ (b : Bool). pick b (Err (fault 5 0)) (Ok (code_of m))) (width_refused n m z)
 
 pub refuses : Refuses
 refuses n t k p = (refused_why n t k p, why_refused n k p t)
@@ -334,23 +360,24 @@ refuses n t k p = (refused_why n t k p, why_refused n k p t)
 -- ---- and a text, for its first bad token
 
 module _ (n k at : ℕ) (w : Run) (ws : List Run) (more : reading n ws ≡ bad k at → FirstBad n ws k at) where
-  bad_cases : (t : Token) (r : Reading) → read_token n w.bytes ≡ t → reading n ws ≡ r → ahead t w.start r ≡ bad k at → FirstBad n (w ∷ ws) k at
+  bad_cases : (t : Result ℕ Fault) (r : Reading) → read_token n w.bytes ≡ t → reading n ws ≡ r → ahead t w.start r ≡ bad k at → FirstBad n (w ∷ ws) k at
   unfolding reading
-  bad_cases (Not j p) r e d q =
-      let a : j ≡ k = cc in
-      let b : w.start + p ≡ at = cc in
+  bad_cases (Err f) r e d q =
+      let a : number_of f.refusal ≡ k = cc in
+      let b : w.start + f.place ≡ at = cc in
+      let g : Err f ≡ Err (fault (number_of f.refusal) f.place) = ap (λ (x : Refusal). Err (record { refusal = x; place = f.place })) (sym (refusal_back f.refusal)) in
       record {
         before = [];
         word = w;
         after = ws;
-        place = p;
+        place = f.place;
         words_are = refl;
         fine = ([], refl);
-        refused = subst (λ (x : ℕ). Refusing n x p w.bytes) a (refused_why n w.bytes j p e);
+        refused = subst (λ (x : ℕ). Refusing n x f.place w.bytes) a (refused_why n w.bytes (number_of f.refusal) f.place (e ∙ g));
         counted = sym b;
       }
-  bad_cases (Is c) (codes cs) e d q = let z : ◌≡◌ {A = ℕ} 0 1 = cc in absurd (omega arith)
-  bad_cases (Is c) (bad j a) e d q =
+  bad_cases (Ok c) (codes cs) e d q = let z : ◌≡◌ {A = ℕ} 0 1 = cc in absurd (omega arith)
+  bad_cases (Ok c) (bad j a) e d q =
       let f = more (d ∙ q) in
       record {
         before = w ∷ f.before;
@@ -370,11 +397,11 @@ bad_found n (w ∷ ws) k at e = bad_cases n k at w ws (bad_found n ws k at) (rea
 
 -- a refusal stands behind words that are read
 module _ (n k at : ℕ) (rest : List Run) (h : reading n rest ≡ bad k at) where
-  behind_cases : (t : Token) (s : ℕ) (r r' : Reading) {cs : List ℕ} → ahead t s r ≡ codes cs → ((ds : List ℕ) → r ≡ codes ds → r' ≡ bad k at)
+  behind_cases : (t : Result ℕ Fault) (s : ℕ) (r r' : Reading) {cs : List ℕ} → ahead t s r ≡ codes cs → ((ds : List ℕ) → r ≡ codes ds → r' ≡ bad k at)
       → ahead t s r' ≡ bad k at
-  behind_cases (Not j p) s r r' e z = let y : ◌≡◌ {A = ℕ} 0 1 = cc in absurd (omega arith)
-  behind_cases (Is c) s (codes ds) r' e z = ap (ahead (Is c) s) (z ds refl)
-  behind_cases (Is c) s (bad j a) r' e z = let y : ◌≡◌ {A = ℕ} 0 1 = cc in absurd (omega arith)
+  behind_cases (Err f) s r r' e z = let y : ◌≡◌ {A = ℕ} 0 1 = cc in absurd (omega arith)
+  behind_cases (Ok c) s (codes ds) r' e z = ap (ahead (Ok c) s) (z ds refl)
+  behind_cases (Ok c) s (bad j a) r' e z = let y : ◌≡◌ {A = ℕ} 0 1 = cc in absurd (omega arith)
 
   behind_read : (before : List Run) {cs : List ℕ} → reading n before ≡ codes cs → reading n (before ++ rest) ≡ bad k at
   unfolding reading
@@ -385,7 +412,8 @@ module _ (n k at : ℕ) (rest : List Run) (h : reading n rest ≡ bad k at) wher
 found_bad : (n : ℕ) (ws : List Run) (k at : ℕ) → FirstBad n ws k at → reading n ws ≡ bad k at
 unfolding reading
 found_bad n ws k at f =
-    let here : reading n (f.word ∷ f.after) ≡ bad k at = rw (why_refused n k f.place f.word.bytes f.refused) (ap (bad k) (sym f.counted)) in
+    let d : number_of (refusal k) ≡ k = (refusing_named n k f.place f.word.bytes f.refused).number in
+    let here : reading n (f.word ∷ f.after) ≡ bad k at = rw (why_refused n k f.place f.word.bytes f.refused) (rw d (ap (bad k) (sym f.counted))) in
     ap (reading n) f.words_are ∙ behind_read n k at (f.word ∷ f.after) here f.before f.fine.1
 
 pub first_refused : FirstRefused

@@ -15,8 +15,8 @@ use Rattle.generic_cube.specs.declared.Move.{Move}
 use Rattle.generic_cube.specs.Code.{move, move_of, code_of, is_wide, bad_width_in}
 use Rattle.generic_cube.proofs.AllMovesLaws.{holds_at}
 use Rattle.generic_cube.proofs.CodeLaws.{code_move, move_code, inside, inside_not}
-use Rattle.tokens.specs.declared.Token.TheVariants.{Is, Not}
-use Rattle.tokens.specs.Token.{digit_of, is_digit, digits_of, number_of, token_width, kind_letters, letter_of, letter_at, is_wide_token, plain_kind, mark_of, suffix_at, token_end, token_move, bad_token_width, unless_fault, read_behind, read_token}
+use Rattle.std.specs.Prelude.{Ok, Err}
+use Rattle.tokens.specs.Token.{fault, digit_of, is_digit, digits_of, number_of, token_width, kind_letters, letter_of, letter_at, is_wide_token, plain_kind, mark_of, suffix_at, token_end, token_move, bad_token_width, unless_fault, read_behind, read_token}
 use Rattle.tokens.proofs.TokenLaws.{digit_back, plain_kind_lem, wide_of, wide_letter, parts_digits, parts_letter, parts_w, parts_width, end_left, Formed, token_code, wide_move, plain_move, suffix_wide, suffix_plain}
 use Rattle.theorems.specs.Notation.{Suffix, quarter_mark, half_mark, counter_mark, Width, no_digits, one_digit, two_digits, three_digits, Shaped, plain_token, wide_token, WidthTaken, Spelled, Accepts, AcceptsNoOther}
 
@@ -106,7 +106,7 @@ module _ (n : ℕ) (t : List ℕ) (k : ℕ) where
         (λ w. rw (wide_move t k w, w, wide_of (letter_at t k) (wide_letter t k w).0))
         (λ w. rw (plain_move t k w, w, (plain_kind_lem (letter_at t k) f.letter).plain))
 
-    formed_reads : read_behind n t k ≡ pick (bad_width_in 2 (n - 1) (token_move t k)) (Not 5 0) (Is (code_of (token_move t k)))
+    formed_reads : read_behind n t k ≡ pick (bad_width_in 2 (n - 1) (token_move t k)) (Err (fault 5 0)) (Ok (code_of (token_move t k)))
     unfolding read_behind unless_fault
     formed_reads = rw (parts_digits t k f.first f.few, parts_letter t k f.letter f.plain, parts_w t k f.plain, end_left t k f.end, width_test)
 
@@ -157,12 +157,12 @@ wide_reads p {ds} {s} {w} {u} h d x =
     }
 
 -- of the grammar, and its width taken or not
-read_as : {t : List ℕ} {k : ℕ} {m : Move} (n : ℕ) → ReadAs t k m → read_token n t ≡ pick (bad_width_in 2 (n - 1) m) (Not 5 0) (Is (code_of m))
+read_as : {t : List ℕ} {k : ℕ} {m : Move} (n : ℕ) → ReadAs t k m → read_token n t ≡ pick (bad_width_in 2 (n - 1) m) (Err (fault 5 0)) (Ok (code_of m))
 unfolding read_token
 read_as {t} {k} {m} n r =
-    ap (read_behind n t) r.count ∙ formed_reads n t k r.form ∙ ap (λ (x : Move). pick (bad_width_in 2 (n - 1) x) (Not 5 0) (Is (code_of x))) r.is
+    ap (read_behind n t) r.count ∙ formed_reads n t k r.form ∙ ap (λ (x : Move). pick (bad_width_in 2 (n - 1) x) (Err (fault 5 0)) (Ok (code_of x))) r.is
 
-pub shaped_reads : {t : List ℕ} {m : Move} (n : ℕ) → Shaped t m → read_token n t ≡ pick (bad_width_in 2 (n - 1) m) (Not 5 0) (Is (code_of m))
+pub shaped_reads : {t : List ℕ} {m : Move} (n : ℕ) → Shaped t m → read_token n t ≡ pick (bad_width_in 2 (n - 1) m) (Err (fault 5 0)) (Ok (code_of m))
 shaped_reads n (plain_token p h x) = read_as n (plain_reads p h x)
 shaped_reads n (wide_token p h d x) = read_as n (wide_reads p h d x)
 
@@ -181,7 +181,7 @@ width_refused n m h = bool_cases (bad_width_in 2 (n - 1) m) (λ e. e) (λ e. abs
 
 pub accepts : Accepts
 accepts n t c s =
-    shaped_reads n s.shape ∙ ap (λ (b : Bool). pick b (Not 5 0) (Is (code_of (move_of c)))) (taken_width n (move_of c) s.width) ∙ ap Is (code_move c)
+    shaped_reads n s.shape ∙ ap (λ (b : Bool). pick b (Err (fault 5 0)) (Ok (code_of (move_of c)))) (taken_width n (move_of c) s.width) ∙ ap Ok (code_move c)
 
 -- ---- a token that is read is of the grammar
 

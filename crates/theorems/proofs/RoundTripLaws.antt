@@ -3,22 +3,19 @@ use Prim.Native.Nat.{ℕ, ◌+◌, ◌-◌, ◌≤◌}
 use mathlib.Core.Path.{◌≡◌, refl, ap, ◌∙◌}
 use mathlib.Core.Bool.{true, false}
 use mathlib.Core.List.{List, [], ◌∷◌, ◌++◌}
-use native.Mathlib.Omega.{arith}
 use lib.ListN.{length, take, drop}
 use lib.Seq.{take-append_seam}
-use lib.Dec.{ltb, eqb}
-use borrow.Author.Tests.{le-ltb, eqb-true}
+use lib.Dec.{ltb}
+use borrow.Author.Tests.{le-ltb}
+use Rattle.std.specs.Prelude.{Result, Ok}
+use Rattle.tokens.specs.declared.Fault.{Fault}
+use Rattle.generic_cube.proofs.AnswerLaws.{ok_number}
 use Rattle.ground.specs.Choice.{any}
 use Rattle.ground.specs.Lists.{each}
 use Rattle.ground.specs.Refusals.{◌when◌, lowest}
-use Rattle.ground.proofs.ChoiceLaws.{bool_cases}
 use Rattle.ground.proofs.RefusalLaws.{passed, lowest_behind}
-use Rattle.generic_cube.specs.declared.Answer.TheVariants.{Value, Refused}
-use Rattle.generic_cube.specs.Answers.{answer}
 use Rattle.generic_cube.specs.Code.{rows_in, refusal_in}
 use Rattle.generic_cube.proofs.CodeLaws.{sized_bounds, Good, AllGood, taken_good}
-use Rattle.tokens.specs.declared.Token.{Token}
-use Rattle.tokens.specs.declared.Token.TheVariants.{Is}
 use Rattle.tokens.specs.Words.{is_space, ends_word, word_bytes, words}
 use Rattle.tokens.proofs.WordLaws.{words_word}
 use Rattle.scramble_writer.specs.Write.{text_of, rest_text, list_text, write_refusal}
@@ -47,8 +44,8 @@ unfolding reading
 front_reads n at c cs h g e =
     let s = text_spelled n c h g in
     ap (reading n) (text_word at (text_of c) (rest_text cs) (shaped_some s.shape) (shaped_word s.shape) (rest_ends cs))
-    ∙ ap (λ (t : Token). ahead t at (reading n (words [] (at + length (text_of c)) true (rest_text cs)))) (accepts n (text_of c) c s)
-    ∙ ap (ahead (Is c) at) e
+    ∙ ap (λ (t : Result ℕ Fault). ahead t at (reading n (words [] (at + length (text_of c)) true (rest_text cs)))) (accepts n (text_of c) c s)
+    ∙ ap (ahead (Ok c) at) e
 
 rest_reads : (n at : ℕ) (cs : List ℕ) → n ≤ 104 → AllGood 2 (n - 1) cs → reading n (words [] at true (rest_text cs)) ≡ codes cs
 unfolding rest_text each words is_space reading AllGood
@@ -64,17 +61,10 @@ text_reads n (c ∷ cs) h g = front_reads n 0 c cs h g.0 (rest_reads n (0 + leng
 pub round_trips : RoundTrips
 round_trips n cs s e = text_reads n cs (sized_bounds n s).1 (taken_good 2 (n - 1) cs e)
 
--- a count is answered exactly where nothing is refused
-value_zero : (j k count : ℕ) → Value k ≡ answer j count → (j ≡ 0) × (k ≡ count)
-value_zero j k count e =
-    bool_cases (eqb j 0)
-    (λ t. let q : Value k ≡ Value count = rw t at e in (eqb-true _ _ t, cc))
-    (λ t. let q : Value k ≡ Refused j = rw t at e in let y : ◌≡◌ {A = ℕ} 0 1 = cc in absurd (omega arith))
-
 pub reads_back : ReadsBack
 unfolding read_answer read_out
 reads_back n k cs text text' out out' r w p h =
-    let z = value_zero (write_refusal n cs (length text)) k (length (list_text cs)) w.answered in
+    let z = ok_number (write_refusal n cs (length text)) (length (list_text cs)) w.answered in
     let f = write_fits n cs (length text) z.0 in
     let whole : take k text' ≡ list_text cs = rw (w.left, z.0, z.1) (take-append_seam (list_text cs) (drop (length (list_text cs)) text)) in
     let b = round_trips n cs f.size f.list in

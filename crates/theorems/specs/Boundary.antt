@@ -1,11 +1,19 @@
 -- What a caller of the exported functions reads in the one number that each of them answers, and in the slices that it lent.
-use Rattle.std.specs.Prelude.{ℕ, zero, suc, ◌/◌, ◌%◌, ◌<◌, ◌≡◌, List, length, take}
-use Rattle.generic_cube.specs.declared.Answer.TheVariants.{Value}
-use Rattle.generic_cube.specs.Answers.{answer_no, answer_value}
+use Rattle.std.specs.Prelude.{ℕ, zero, suc, ◌/◌, ◌%◌, ◌<◌, ◌≡◌, true, List, length, take, Ok}
+use Rattle.generic_cube.specs.Answers.{done, answer_no, answer_value}
+use Rattle.generic_cube.specs.Sizes.{sized}
+use Rattle.generic_cube.specs.AllMoves.{all_refusal}
+use Rattle.generic_cube.specs.StickerIndex.{sticker_refusal}
+use Rattle.move_lists.specs.Lists.{same_refusal}
+use Rattle.scramble_writer.specs.Write.{write_refusal}
+use Rattle.scramble_parser.specs.Parse.{Reading, bad, read_answer, scramble_reading, parsed_no, parsed_value}
+use Rattle.algorithm_parser.specs.Groups.{algorithm_reading}
+use Rattle.facelet_cube.specs.Apply.{apply_refusal}
+use Rattle.facelet_cube.specs.Cube.{cube_refusal, mask_refusal}
 use Rattle.search_theory.specs.Search.{Reply, none, found, Best}
 use Rattle.search_theory.specs.CubeSearch.{CubeSearch, task_of, AdmissibleTable}
-use Rattle.pruning_table.specs.PruningTable.{PruningTableResult}
-use Rattle.ida_star.specs.IdaStar.{reply, IdaStarResult, outcome_no, outcome_value}
+use Rattle.pruning_table.specs.PruningTable.{early_refusal, PruningTableResult}
+use Rattle.ida_star.specs.IdaStar.{reply, search_refusal, IdaStarResult, outcome_value}
 use Rattle.cubesim.specs.Pack.{pack, Packed}
 use Rattle.theorems.specs.Searching.{used, UndoThemselves}
 
@@ -30,7 +38,7 @@ TableCall n starts moves depth table table' b = Packed answer_no answer_value (P
 
 -- a call of `cubesim_ida_star` answered r and left work' and out'
 abbrev pub SearchCall : CubeSearch → List ℕ → List ℕ → List ℕ → List ℕ → ℕ → Type 0
-SearchCall q work work' out out' r = Packed outcome_no outcome_value (IdaStarResult q work work' out out') r
+SearchCall q work work' out out' r = Packed answer_no outcome_value (IdaStarResult q work work' out out') r
 
 -- the value 0 tells none, k + 1 the first k codes of the output
 abbrev pub reply_read : ℕ → List ℕ → Reply
@@ -41,7 +49,7 @@ reply_read (suc k) out = found (take k out)
 abbrev pub TableRead : Type 0
 TableRead =
     (n : ℕ) (starts moves : List ℕ) (depth : ℕ) (table table' : List ℕ) (b : ℕ) → Fits (length table)
-    → TableCall n starts moves depth table table' b → b % 256 ≡ 0 → PruningTableResult n starts moves depth table table' (Value (b / 256))
+    → TableCall n starts moves depth table table' b → b % 256 ≡ 0 → PruningTableResult n starts moves depth table table' (Ok (b / 256))
 
 -- number 0: value and output tell what `dfs` under rising limits answers, for any table at all
 abbrev pub SearchTold : Type 0
@@ -63,3 +71,26 @@ TableThenSearchRead =
     → q.table ≡ used q.n (b / 256) table' → UndoThemselves q.n q.candidates
     → (work work' out out' : List ℕ) (r : ℕ) → SearchCall q work work' out out' r → r % 256 ≡ 0
     → Best (task_of q) q.limit q.cube (reply_read (r / 256) out')
+
+-- ---- the number in an answer
+
+-- it is the one that the entry's rows give, as each of them has a refusal of its own
+abbrev pub Told : ℕ → Type 0
+Told k = answer_no (done k) ≡ k
+
+-- and of a text the one that its first bad token has
+abbrev pub ToldOf : ℕ → Reading → ℕ → Type 0
+ToldOf n r room = (k at : ℕ) → sized n ≡ true → r ≡ bad k at → (parsed_no (read_answer n r room) ≡ k) × (parsed_value (read_answer n r room) ≡ at)
+
+pub record NumbersTold : Type 0 where
+  pub of_cube : (n long : ℕ) → Told (cube_refusal n long)
+  pub of_sticker : (n face i : ℕ) → Told (sticker_refusal n face i)
+  pub of_mask : (n cube : ℕ) (ids : List ℕ) (keep : ℕ) → Told (mask_refusal n cube ids keep)
+  pub of_list : (n cube work : ℕ) (moves : List ℕ) → Told (apply_refusal n cube work moves)
+  pub of_all_moves : (n room : ℕ) → Told (all_refusal n room)
+  pub of_scramble : (n : ℕ) (text : List ℕ) (room : ℕ) → ToldOf n (scramble_reading n text) room
+  pub of_algorithm : (n : ℕ) (text : List ℕ) (room : ℕ) → ToldOf n (algorithm_reading n text) room
+  pub of_writer : (n : ℕ) (moves : List ℕ) (room : ℕ) → Told (write_refusal n moves room)
+  pub of_same_length : (n : ℕ) (moves : List ℕ) (room : ℕ) → Told (same_refusal n moves room)
+  pub of_table : (n starts : ℕ) (moves : List ℕ) (depth : ℕ) → Told (early_refusal n starts moves depth)
+  pub of_search : (q : CubeSearch) (work out : ℕ) → Told (search_refusal q work out)

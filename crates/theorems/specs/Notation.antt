@@ -1,18 +1,15 @@
 -- What is promised of the notation and of lists of codes, beside what the entries' results say.
-use Rattle.std.specs.Prelude.{ℕ, ◌+◌, ◌-◌, ◌*◌, ◌≤◌, ◌<◌, ◌≡◌, true, ◌⊎◌, ◌↔◌, List, [], ◌∷◌, ◌++◌, length, get_or, take, eqb, ltb}
+use Rattle.std.specs.Prelude.{ℕ, ◌+◌, ◌-◌, ◌*◌, ◌≤◌, ◌<◌, ◌≡◌, true, ◌⊎◌, ◌↔◌, List, [], ◌∷◌, ◌++◌, length, get_or, take, Result, Ok, Err, eqb, ltb}
 use Rattle.ground.specs.Choice.{pick}
 use Rattle.ground.specs.Lists.{over}
 use Rattle.generic_cube.specs.declared.Move.{Move}
-use Rattle.generic_cube.specs.declared.Answer.TheVariants.{Value}
 use Rattle.generic_cube.specs.Sizes.{sized}
 use Rattle.generic_cube.specs.Code.{move, move_of, is_wide, refusal_in}
 use Rattle.move_lists.specs.Lists.{simplify, Reduced, Turned, Steps, inverse}
-use Rattle.tokens.specs.declared.Token.TheVariants.{Is, Not}
-use Rattle.tokens.specs.Token.{kind_letters, plain_kind, read_token}
+use Rattle.tokens.specs.Token.{kind_letters, plain_kind, fault, read_token}
 use Rattle.tokens.specs.Words.{Run, tokens_of}
 use Rattle.scramble_writer.specs.Write.{text_of, list_text, write_refusal, WriteResult}
-use Rattle.scramble_parser.specs.declared.Parsed.{Parsed}
-use Rattle.scramble_parser.specs.declared.Parsed.TheVariants.{Moves}
+use Rattle.scramble_parser.specs.declared.ParseError.{ParseError}
 use Rattle.scramble_parser.specs.Parse.{codes, bad, reading, ParseResult}
 
 -- ---- the grammar of a token
@@ -47,11 +44,11 @@ pub record Spelled (n : ℕ) (t : List ℕ) (m : Move) : Type 0 where
 
 -- every token of the grammar is read as its move
 abbrev pub Accepts : Type 0
-Accepts = (n : ℕ) (t : List ℕ) (c : ℕ) → Spelled n t (move_of c) → read_token n t ≡ Is c
+Accepts = (n : ℕ) (t : List ℕ) (c : ℕ) → Spelled n t (move_of c) → read_token n t ≡ Ok c
 
 -- and no other
 abbrev pub AcceptsNoOther : Type 0
-AcceptsNoOther = (n : ℕ) (t : List ℕ) (c : ℕ) → read_token n t ≡ Is c → Spelled n t (move_of c)
+AcceptsNoOther = (n : ℕ) (t : List ℕ) (c : ℕ) → read_token n t ≡ Ok c → Spelled n t (move_of c)
 
 -- ---- where a text stops being a token, read from the left
 
@@ -96,7 +93,7 @@ pub data Refusing : ℕ → ℕ → ℕ → List ℕ → Type 0 where
 
 -- a token is refused with a number at a place exactly if this is why
 abbrev pub Refuses : Type 0
-Refuses = (n : ℕ) (t : List ℕ) (k p : ℕ) → (read_token n t ≡ Not k p) ↔ Refusing n k p t
+Refuses = (n : ℕ) (t : List ℕ) (k p : ℕ) → (read_token n t ≡ Err (fault k p)) ↔ Refusing n k p t
 
 -- the first bad token among the words of a text: those before it are read, and the place is counted from the text's start
 pub record FirstBad (n : ℕ) (ws : List Run) (k at : ℕ) : Type 0 where
@@ -117,7 +114,7 @@ FirstRefused = (n : ℕ) (ws : List Run) (k at : ℕ) → (reading n ws ≡ bad 
 
 -- a token is as the writer writes its move, or for width 2 that with a `2` before it
 abbrev pub TwoTexts : Type 0
-TwoTexts = (n : ℕ) (t : List ℕ) (c : ℕ) → read_token n t ≡ Is c → (t ≡ text_of c) ⊎ (((move_of c).width ≡ 2) × (t ≡ 50 ∷ text_of c))
+TwoTexts = (n : ℕ) (t : List ℕ) (c : ℕ) → read_token n t ≡ Ok c → (t ≡ text_of c) ⊎ (((move_of c).width ≡ 2) × (t ≡ 50 ∷ text_of c))
 
 -- ---- reading what was written
 
@@ -126,13 +123,13 @@ abbrev pub RoundTrips : Type 0
 RoundTrips = (n : ℕ) (cs : List ℕ) → sized n ≡ true → refusal_in 2 (n - 1) cs ≡ 0 → reading n (tokens_of (list_text cs)) ≡ codes cs
 
 -- what `write_scramble` wrote, `parse_scramble` reads as the same list, wherever there is room for it
-pub record ReadBack (cs out out' : List ℕ) (r : Parsed) : Type 0 where
-  pub answered : r ≡ Moves (length cs)
+pub record ReadBack (cs out out' : List ℕ) (r : Result ℕ ParseError) : Type 0 where
+  pub answered : r ≡ Ok (length cs)
   pub left : out' ≡ over cs out
 
 abbrev pub ReadsBack : Type 0
 ReadsBack =
-    (n k : ℕ) (cs text text' out out' : List ℕ) (r : Parsed) → WriteResult n cs text text' (Value k)
+    (n k : ℕ) (cs text text' out out' : List ℕ) (r : Result ℕ ParseError) → WriteResult n cs text text' (Ok k)
     → ParseResult n (take k text') out out' r → length cs ≤ length out → ReadBack cs out out' r
 
 -- the writer's output room is the exact text length

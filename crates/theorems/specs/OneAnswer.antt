@@ -1,9 +1,8 @@
 -- One possible answer: for each exported function, whatever meets its contract on the same arguments is the same, the answer and every lent
 -- slice, for refused input too.
-use Rattle.std.specs.Prelude.{ℕ, ◌≡◌, List}
-use Rattle.generic_cube.specs.declared.Done.{Done}
-use Rattle.generic_cube.specs.declared.Answer.{Answer}
-use Rattle.generic_cube.specs.Answers.{done_no, answer_no, answer_value, answer}
+use Rattle.std.specs.Prelude.{ℕ, ◌≡◌, List, Result}
+use Rattle.ground.specs.declared.refusals.Refusal.{Refusal}
+use Rattle.generic_cube.specs.Answers.{answer_no, answer_value, answer}
 use Rattle.generic_cube.specs.AllMoves.{AllMovesResult}
 use Rattle.generic_cube.specs.StickerIndex.{sticker_refusal, sticker_index}
 use Rattle.move_lists.specs.Lists.{SimplifyResult, InvertResult}
@@ -14,7 +13,7 @@ use Rattle.facelet_cube.specs.Apply.{ApplyMovesResult}
 use Rattle.facelet_cube.specs.Cube.{verdict, verdict_no, verdict_value, SolvedResult, SolvedIdsResult, MaskResult}
 use Rattle.search_theory.specs.CubeSearch.{CubeSearch}
 use Rattle.pruning_table.specs.PruningTable.{PruningTableResult}
-use Rattle.ida_star.specs.IdaStar.{IdaStarResult, outcome_no, outcome_value}
+use Rattle.ida_star.specs.IdaStar.{IdaStarResult, outcome_value}
 use Rattle.cubesim.specs.Pack.{Packed}
 
 -- a contract over the answer alone, over it and one lent slice, and over it and two
@@ -28,10 +27,10 @@ abbrev pub One2 : (ℕ → List ℕ → List ℕ → Type 0) → Type 0
 One2 P = (r s : ℕ) (a b x y : List ℕ) → P r a x → P s b y → (r ≡ s) × (a ≡ b) × (x ≡ y)
 
 -- the contracts' way of saying it: an answer that gives nothing back, a count or an index
-abbrev pub Success : (Done → Type 0) → ℕ → Type 0
-Success Result r = Packed done_no (λ a. 0) Result r
+abbrev pub Success : (Result (Unit {0}) Refusal → Type 0) → ℕ → Type 0
+Success Result r = Packed answer_no (λ a. 0) Result r
 
-abbrev pub Valued : (Answer → Type 0) → ℕ → Type 0
+abbrev pub Valued : (Result ℕ Refusal → Type 0) → ℕ → Type 0
 Valued Result r = Packed answer_no answer_value Result r
 
 pub record OneAnswer : Type 0 where
@@ -49,4 +48,4 @@ pub record OneAnswer : Type 0 where
   pub simplify_moves : (n : ℕ) (moves out : List ℕ) → One1 (λ r a. Valued (SimplifyResult n moves out a) r)
   pub invert_moves : (n : ℕ) (moves out : List ℕ) → One1 (λ r a. Valued (InvertResult n moves out a) r)
   pub pruning_table : (n : ℕ) (starts moves : List ℕ) (depth : ℕ) (table : List ℕ) → One1 (λ r a. Valued (PruningTableResult n starts moves depth table a) r)
-  pub ida_star : (q : CubeSearch) (work out : List ℕ) → One2 (λ r a x. Packed outcome_no outcome_value (IdaStarResult q work a out x) r)
+  pub ida_star : (q : CubeSearch) (work out : List ℕ) → One2 (λ r a x. Packed answer_no outcome_value (IdaStarResult q work a out x) r)

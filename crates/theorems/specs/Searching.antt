@@ -1,10 +1,10 @@
 -- What is promised of the search (demand 3) and of the tables that are built here, in the words of the rules. The proofs stand in
 -- proofs/SearchingLaws.antt and proofs/BuildingLaws.antt.
-use Rattle.std.specs.Prelude.{ℕ, ◌+◌, ◌*◌, ◌≤◌, ◌<◌, ◌≡◌, ◌↔◌, Bool, true, false, eqb, length, get_or, take, replicate}
+use Rattle.std.specs.Prelude.{ℕ, ◌+◌, ◌*◌, ◌≤◌, ◌<◌, ◌≡◌, ◌↔◌, Bool, true, false, eqb, length, get_or, take, replicate, Option, Some, None, Result, Ok, Err}
 use mathlib.Core.List.{List, [], ◌∷◌, Memᴰ}
 use Rattle.ground.specs.Choice.{any, all}
-use Rattle.generic_cube.specs.declared.Answer.{Answer}
-use Rattle.generic_cube.specs.declared.Answer.TheVariants.{Value, Refused}
+use Rattle.ground.specs.declared.refusals.Refusal.{Refusal}
+use Rattle.ground.specs.declared.refusals.Refusal.TheVariants.{Room}
 use Rattle.generic_cube.specs.Sizes.{stickers, letters}
 use Rattle.generic_cube.specs.Code.{list_refusal}
 use Rattle.move_lists.specs.Lists.{inverse_of}
@@ -15,18 +15,16 @@ use Rattle.search_theory.specs.CubeSearch.{CubeSearch, task_of, Cube, Admissible
 use Rattle.table_theory.specs.Built.{built, table_of, MembersOf}
 use Rattle.table_theory.specs.Exact.{Exactly, Outnumber}
 use Rattle.pruning_table.specs.PruningTable.{early_refusal, PruningTableResult}
-use Rattle.ida_star.specs.declared.Outcome.{Outcome}
-use Rattle.ida_star.specs.declared.Outcome.TheVariants.{Found, Nothing}
 use Rattle.ida_star.specs.IdaStar.{reply, search_refusal, IdaStarResult}
 
 -- the reply that an answer and the output at exit tell
-abbrev pub reply_told : Outcome → List ℕ → Reply
-reply_told (Found k) out = found (take k out)
-reply_told Nothing out = none
-reply_told (Outcome.Refused k) out = none
+abbrev pub reply_told : Result (Option ℕ) Refusal → List ℕ → Reply
+reply_told (Ok (Some k)) out = found (take k out)
+reply_told (Ok None) out = none
+reply_told (Err k) out = none
 
 -- a search that was not refused ended with this output and this answer
-pub record Ran (q : CubeSearch) (out' : List ℕ) (r : Outcome) : Type 0 where
+pub record Ran (q : CubeSearch) (out' : List ℕ) (r : Result (Option ℕ) Refusal) : Type 0 where
   pub work : List ℕ
   pub work' : List ℕ
   pub out : List ℕ
@@ -36,13 +34,13 @@ pub record Ran (q : CubeSearch) (out' : List ℕ) (r : Outcome) : Type 0 where
 -- DEMAND 3: where the table is admissible, the answer is a shortest allowed list to a goal, of those the first in candidate order, or none
 -- where no allowed list within the limit reaches a goal
 abbrev pub BestAnswer : Type 0
-BestAnswer = (q : CubeSearch) (out' : List ℕ) (r : Outcome) → Ran q out' r → AdmissibleTable q → Best (task_of q) q.limit q.cube (reply_told r out')
+BestAnswer = (q : CubeSearch) (out' : List ℕ) (r : Result (Option ℕ) Refusal) → Ran q out' r → AdmissibleTable q → Best (task_of q) q.limit q.cube (reply_told r out')
 
 -- and it is none exactly if there is none within the limit
 abbrev pub NoneExactly : Type 0
 NoneExactly =
-    (q : CubeSearch) (out' : List ℕ) (r : Outcome) → Ran q out' r → AdmissibleTable q
-    → (r ≡ Nothing) ↔ ((p : List ℕ) → Solves (task_of q) q.cube p → length p ≤ q.limit → ⊥)
+    (q : CubeSearch) (out' : List ℕ) (r : Result (Option ℕ) Refusal) → Ran q out' r → AdmissibleTable q
+    → (r ≡ Ok None) ↔ ((p : List ℕ) → Solves (task_of q) q.cube p → length p ≤ q.limit → ⊥)
 
 -- one reply is the best, and no other is
 abbrev pub OneBest : Type 0
@@ -68,7 +66,7 @@ used n count table = take (count * (stickers n + 1)) table
 -- rising order; bytes after the used entries stay
 abbrev pub BuiltIsExact : Type 0
 BuiltIsExact =
-    (n : ℕ) (starts moves : List ℕ) (depth : ℕ) (table table' : List ℕ) (count : ℕ) → PruningTableResult n starts moves depth table table' (Value count)
+    (n : ℕ) (starts moves : List ℕ) (depth : ℕ) (table table' : List ℕ) (count : ℕ) → PruningTableResult n starts moves depth table table' (Ok count)
     → Exactly n starts moves depth table table' count
 
 -- this leaves one count and one buffer
@@ -80,30 +78,30 @@ OneTable =
 -- the used part has a table's form
 abbrev pub BuiltIsFormed : Type 0
 BuiltIsFormed =
-    (n : ℕ) (starts moves : List ℕ) (depth : ℕ) (table table' : List ℕ) (count : ℕ) → PruningTableResult n starts moves depth table table' (Value count)
+    (n : ℕ) (starts moves : List ℕ) (depth : ℕ) (table table' : List ℕ) (count : ℕ) → PruningTableResult n starts moves depth table table' (Ok count)
     → well_formed (stickers n) (used n count table') ≡ true
 
 -- where nothing else is refused it is 6 exactly if these states outnumber the entries that fit, and a table otherwise
 abbrev pub FullExactly : Type 0
 FullExactly =
-    (n : ℕ) (starts moves : List ℕ) (depth : ℕ) (table table' : List ℕ) (r : Answer) → early_refusal n (length starts) moves depth ≡ 0
-    → PruningTableResult n starts moves depth table table' r → (r ≡ Refused 6) ↔ Outnumber n starts moves depth (entry_count (stickers n) table)
+    (n : ℕ) (starts moves : List ℕ) (depth : ℕ) (table table' : List ℕ) (r : Result ℕ Refusal) → early_refusal n (length starts) moves depth ≡ 0
+    → PruningTableResult n starts moves depth table table' r → (r ≡ Err Room) ↔ Outnumber n starts moves depth (entry_count (stickers n) table)
 
 abbrev pub BuiltOtherwise : Type 0
 BuiltOtherwise =
-    (n : ℕ) (starts moves : List ℕ) (depth : ℕ) (table table' : List ℕ) (r : Answer) → early_refusal n (length starts) moves depth ≡ 0
+    (n : ℕ) (starts moves : List ℕ) (depth : ℕ) (table table' : List ℕ) (r : Result ℕ Refusal) → early_refusal n (length starts) moves depth ≡ 0
     → PruningTableResult n starts moves depth table table' r → (Outnumber n starts moves depth (entry_count (stickers n) table) → ⊥)
-    → r ≡ Value (length (table_of n starts moves depth))
+    → r ≡ Ok (length (table_of n starts moves depth))
 
 -- after 6 the whole buffer is zero, and no other refusal changes it
 abbrev pub FullIsZero : Type 0
 FullIsZero =
-    (n : ℕ) (starts moves : List ℕ) (depth : ℕ) (table table' : List ℕ) → PruningTableResult n starts moves depth table table' (Refused 6)
+    (n : ℕ) (starts moves : List ℕ) (depth : ℕ) (table table' : List ℕ) → PruningTableResult n starts moves depth table table' (Err Room)
     → table' ≡ replicate (length table) 0
 
 abbrev pub RefusedIsKept : Type 0
 RefusedIsKept =
-    (n : ℕ) (starts moves : List ℕ) (depth : ℕ) (table table' : List ℕ) (k : ℕ) → (k ≡ 6 → ⊥) → PruningTableResult n starts moves depth table table' (Refused k)
+    (n : ℕ) (starts moves : List ℕ) (depth : ℕ) (table table' : List ℕ) (k : Refusal) → (k ≡ Room → ⊥) → PruningTableResult n starts moves depth table table' (Err k)
     → table' ≡ table
 
 -- the same starting cubes and candidates, in any order and however often, give the same table
@@ -142,14 +140,14 @@ WideOneUndoes = (n : ℕ) → 0 < n → UndoThemselves n (1 ∷ 91 ∷ []) × (h
 -- candidates and that depth
 abbrev pub BuiltAdmits : Type 0
 BuiltAdmits =
-    (q : CubeSearch) (starts table table' : List ℕ) (count : ℕ) → PruningTableResult q.n starts q.candidates q.depth table table' (Value count)
+    (q : CubeSearch) (starts table table' : List ℕ) (count : ℕ) → PruningTableResult q.n starts q.candidates q.depth table table' (Ok count)
     → q.table ≡ used q.n count table' → UndoThemselves q.n q.candidates → AdmissibleTable q
 
 -- so that a search over it answers as demand 3 wants
 abbrev pub BuiltThenSearched : Type 0
 BuiltThenSearched =
-    (q : CubeSearch) (starts table table' : List ℕ) (count : ℕ) → PruningTableResult q.n starts q.candidates q.depth table table' (Value count)
-    → q.table ≡ used q.n count table' → UndoThemselves q.n q.candidates → (out' : List ℕ) (r : Outcome) → Ran q out' r
+    (q : CubeSearch) (starts table table' : List ℕ) (count : ℕ) → PruningTableResult q.n starts q.candidates q.depth table table' (Ok count)
+    → q.table ≡ used q.n count table' → UndoThemselves q.n q.candidates → (out' : List ℕ) (r : Result (Option ℕ) Refusal) → Ran q out' r
     → Best (task_of q) q.limit q.cube (reply_told r out')
 
 -- ---- and for others it may not hold

@@ -1,19 +1,31 @@
 -- `climb_by_classes`: a level after the other.
-use mathlib.Core.Path.{◌∙◌}
-use Rattle.table_climb.proofs.StageLaws.{raised_to, raised_over, stand_over, stand_level, stand_done}
+use Prim.Native.Nat.{ℕ, ◌+◌, ◌/◌}
+use mathlib.Core.Path.{ap, ◌∙◌}
+use native.Mathlib.Omega.{arith}
+use Rattle.generic_cube.specs.Sizes.{stickers}
+use Rattle.table_climb.proofs.StageLaws.{stand_over, stand_level, stand_done, staged_placed}
 use Rattle.table_climb.proofs.climb_by_classes.Goals as goal
 
-pub returns-in_default : goal.returns-in_default
-returns-in_default c = raised_over (stand_over c.loop-s.invariant.2 c.loop-s-test.true (c.level.ensures.over c.in_default.is))
-
-pub loop-s-preserved : goal.loop-s-preserved
-loop-s-preserved c =
-    let l = c.loop-s in
-    let w = c.level.ensures.to _ c.in-To.is in (
-      c.level.auto.next ∙ l.invariant.0,
-      c.level.auto.index ∙ l.invariant.1,
-      stand_level l.invariant.2 c.loop-s-test.true w.0 w.1 c.next-s.ensures,
+pub level-requires : goal.level-requires
+level-requires c =
+    let l = c.loop-stage in (
+      l.auto.next ∙ c.requires.0,
+      record {
+        room = l.invariant.staged.room;
+        slots = omega arith;
+        size_few = omega arith;
+        width_most = c.guess-width.ensures.0;
+        few = λ f. omega (arith, c.guess-width.ensures.1 f, ap (λ (k : ℕ). k / (stickers c.args.job.n + 1)) l.auto.table);
+      },
+      staged_placed l.invariant.staged,
     )
 
+pub returns-in_err-count : goal.returns-in_err-count
+returns-in_err-count c = rw c.from_residual.ensures (stand_over c.loop-stage.invariant c.loop-stage-test.true c.in_err-count.ensures)
+
+pub loop-stage-preserved : goal.loop-stage-preserved
+loop-stage-preserved c =
+    let g = c.in_ok-count.ensures in stand_level c.loop-stage.invariant c.loop-stage-test.true g.0 g.1 c.next-stage.ensures
+
 pub returns : goal.returns
-returns c = raised_to (stand_done c.loop-s.invariant.2 c.loop-s-test.false) c.loop-s.invariant.2.stayed
+returns c = stand_done c.loop-stage.invariant c.loop-stage-test.false

@@ -1,20 +1,26 @@
 -- `fan`: the candidates one after the other.
 use native.Mathlib.Omega.{arith}
 use mathlib.Core.Path.{◌∙◌}
-use Rattle.table_level.proofs.LevelLaws.{stretched_went, stretched_pass, fan_more, fan_all, child_cube}
+use Rattle.ground.proofs.ListLaws.{member_at}
+use Rattle.ground.proofs.RefusalLaws.{passed_on}
+use Rattle.table_level.specs.Inner.{went}
+use Rattle.table_level.proofs.LevelLaws.{came, stretched_pass, fan_more, fan_all, child_cube}
 use Rattle.table_level.proofs.fan.Goals as goal
 
-pub returns-in_default : goal.returns-in_default
-returns-in_default c = let l = c.loop-i.invariant.3.widened in stretched_pass l (c.in_default.not-Went) (child_cube _ _ _ (l.key _ c.requires.2) c.child-r.ensures)
+pub child-requires : goal.child-requires
+child-requires c =
+    let g = c.loop-code.invariant in
+    (member_at _ _ 0 c.loop-code-test.true, c.loop-code.auto.next ∙ c.requires.0, g.tracking, omega (arith, c.requires.2, g.widened.stayed.more))
 
-pub loop-i-preserved : goal.loop-i-preserved
-loop-i-preserved c =
-    let l = c.loop-i in (
-      omega (arith, c.loop-i-test.true),
-      c.child-r.auto.next ∙ l.invariant.1,
-      c.child-r.auto.index ∙ l.invariant.2,
-      fan_more _ l.invariant.3 ((child_cube _ _ _ (l.invariant.3.widened.key _ c.requires.2) c.child-r.ensures).went _ c.in-Went.is),
-    )
+pub returns-in_err-count : goal.returns-in_err-count
+returns-in_err-count c =
+    let w = c.loop-code.invariant.widened in
+    rw (passed_on _ c.from_residual.ensures.1) (stretched_pass w (child_cube _ _ _ (w.key _ c.requires.2) c.in_err-count.ensures))
+
+pub loop-code-preserved : goal.loop-code-preserved
+loop-code-preserved c =
+    let g = c.loop-code.invariant in
+    fan_more _ g (came (child_cube _ _ _ (g.widened.key _ c.requires.2) c.in_ok-count.ensures))
 
 pub returns : goal.returns
-returns c = stretched_went (fan_all _ c.loop-i-test.false c.loop-i.invariant.3)
+returns c = went (fan_all _ c.loop-code-test.false c.loop-code.invariant)

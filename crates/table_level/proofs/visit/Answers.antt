@@ -8,7 +8,7 @@ use Rattle.table_level.proofs.visit.Goals as goal
 pub returns-then-number-eq0 : goal.returns-then-number-eq0
 returns-then-number-eq0 c =
     visit_first _ _ c.if-number-eq0.true
-    (start_is (stickers c.args.n) c.args.at c.args.starts.now (omega (arith, cube_some c.requires.0.some)) (omega (arith, c.requires.2.first c.if-number-eq0.true)))
+    (start_is (stickers c.args.job.n) c.args.at c.args.job.starts.now (omega (arith, cube_some c.args.job.ready.turning.some)) (omega (arith, c.requires.2.first c.if-number-eq0.true)))
     c.enter.ensures
 
 pub returns : goal.returns

@@ -1,12 +1,10 @@
--- `line_end`: no byte before i is a line feed.
-use Rattle.cube_response.proofs.ProgramLaws.{seek_more, seek_here, seek_end}
+-- `line_end`: the first line feed, or the input's end.
+use mathlib.Core.Path.{ap, ◌∙◌}
+use Rattle.std.specs.Prelude.{unwrap_or}
+use lib.ListN.{length}
+use Rattle.cube_response.proofs.ProgramLaws.{line_feed_or_end}
 use Rattle.cube_response.proofs.lines.line_end.Goals as goal
 
-pub returns-then-input-i-eq10 : goal.returns-then-input-i-eq10
-returns-then-input-i-eq10 c = seek_here c.loop-i.invariant c.loop-i-test.true c.if-input-i-eq10.true
-
-pub loop-i-preserved : goal.loop-i-preserved
-loop-i-preserved c = seek_more c.loop-i.invariant c.loop-i-test.true c.if-input-i-eq10.false
-
 pub returns : goal.returns
-returns c = seek_end c.loop-i.invariant c.loop-i-test.false
+returns c =
+    c.unwrap_or.ensures ∙ ap (λ r. unwrap_or r (length c.args.input.now)) c.line_feed.ensures ∙ line_feed_or_end c.args.input.now

@@ -1,27 +1,17 @@
--- `put`: the first i bytes are stored.
-use Prim.Native.Nat.{ℕ, ◌+◌, ◌<◌, ◌≤◌}
-use mathlib.Core.Path.{◌≡◌, refl}
-use mathlib.Core.List.{List, [], ◌∷◌}
-use lib.ListN.{length}
-use Rattle.ground.proofs.PutLaws.{Looped, loop_none, loop_more, loop_all, loop_fits, put_one, put_length, each_self}
+-- `put`: the bytes stand where they were copied to.
+use Prim.Native.Nat.{◌+◌, ◌-◌}
+use mathlib.Core.Path.{◌≡◌, refl, sym, ◌∙◌}
+use mathlib.Core.List.{append_assoc}
 use native.Mathlib.Omega.{arith}
+use lib.ListN.{length, take, drop}
+use lib.Seq.{sets-eq, drop-drop}
 use Rattle.cube_response.proofs.text.put.Goals as goal
 
--- where the next byte goes
-room : {out₀ text out : List ℕ} {at i r : ℕ} → at + length text ≤ length out₀ → Looped out₀ at text (λ b. b ∷ []) i out r → i < length text → (r < length out) × (length out ≡ length out₀)
-room {text = text} h l k = let f = loop_fits (rw (each_self text) h) l k in (omega arith, put_length l.put)
-
-pub loop-i-init : goal.loop-i-init
-loop-i-init c = loop_none
-
-pub bounds-out-r : goal.bounds-out-r
-bounds-out-r c = (room c.requires c.loop-i.invariant c.loop-i-test.true).0
-
-pub overflow_add-r : goal.overflow_add-r
-overflow_add-r c = let h = room c.requires c.loop-i.invariant c.loop-i-test.true in omega arith
-
-pub loop-i-preserved : goal.loop-i-preserved
-loop-i-preserved c = loop_more c.loop-i.invariant c.loop-i-test.true refl (put_one refl)
-
 pub returns : goal.returns
-returns c = rw (each_self c.args.text.now) at (loop_all c.loop-i.invariant c.loop-i-test.false)
+returns c =
+    let at = c.args.at in
+    let text = c.args.text.now in
+    let out = c.args.out.now in
+    let size : at + length text - at ≡ length text = omega arith in
+    let behind : drop (length text) (drop at out) ≡ drop (at + length text) out = drop-drop (length text) at out in
+    record { next = refl; stored = rw (size, c.copy_from_slice.ensures.after, behind) (sym (sets-eq text out at c.requires ∙ append_assoc (take at out) text (drop (at + length text) out))) }

@@ -1,12 +1,7 @@
 -- `put_mask`: the first j places are masked, the others as they were.
-use Prim.Native.Nat.{◌-◌}
-use lib.ListN.{length}
 use Rattle.ground.proofs.FillLaws.{Changing}
 use Rattle.facelet_cube.proofs.CubeLaws.{mask_at}
 use Rattle.facelet_cube.proofs.cube.put_mask.Given as goal
 
 abbrev pub invariant-loop-j : goal.invariant-loop-j
 invariant-loop-j l = Changing (mask_at l.initial.cube l.ids l.keep) l.initial.cube l.cube l.j
-
-abbrev pub decreases-loop-j : goal.decreases-loop-j
-decreases-loop-j l = length l.cube - l.j

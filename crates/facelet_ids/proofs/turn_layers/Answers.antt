@@ -1,9 +1,0 @@
--- `turn_layers`: the lines of the layers on the sides, then the two faces.
-use Rattle.facelet_lanes.proofs.LaneLaws.{layers_done}
-use Rattle.facelet_ids.proofs.turn_layers.Goals as goal
-
-pub returns : goal.returns
-returns c =
-    let a = c.args in
-    layers_done a.n a.t a.face a.first a.count a.cube.now c.turn_ring.ensures
-    c.turn_face.ensures c.turn_face-2.ensures

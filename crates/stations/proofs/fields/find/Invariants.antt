@@ -1,9 +1,0 @@
--- `find`: the walk goes on from `at` and stays within the text.
-use Rattle.std.proofs.Common.{◌-◌, ◌≤◌, length}
-use Rattle.stations.proofs.fields.find.Given as goal
-
-abbrev pub invariant-loop-i : goal.invariant-loop-i
-invariant-loop-i l = (l.at ≤ l.i) × (l.i ≤ length l.text)
-
-abbrev pub decreases-loop-i : goal.decreases-loop-i
-decreases-loop-i l = length l.text - l.i
