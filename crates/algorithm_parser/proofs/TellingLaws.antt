@@ -12,7 +12,7 @@ use Rattle.ground.proofs.ChoiceLaws.{between_bounds}
 use Rattle.tokens.specs.declared.Fault.{Fault}
 use Rattle.tokens.specs.Token.{fault}
 use Rattle.scramble_parser.specs.Inner.{in_text}
-use Rattle.scramble_parser.proofs.ParseLaws.{refusal_back}
+use Rattle.ground.proofs.RefusalLaws.{refusal_back}
 use Rattle.move_lists.specs.Lists.{inverse}
 use Rattle.algorithm_parser.specs.Algorithm.{Alg, repeated, copies, expand}
 use Rattle.algorithm_parser.specs.Groups.{round_end, square_end, paired}
