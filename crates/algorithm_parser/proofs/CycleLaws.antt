@@ -127,11 +127,7 @@ module _ {n : ℕ} {text : List ℕ} {left i cap : ℕ} {out₀ : List ℕ} {j :
               (told_front cap out next w.0 (sequence_at n text left r.end) g.placed w.2 last y z));
         }
 
--- where a token or a group ends
-pub token_end_lem : (cap : ℕ) (out : List ℕ) (j : ℕ) (t : Result ℕ Fault) (s e : ℕ) (new : List ℕ) (r : Read) → Told cap out j (token_alone t s e) new (Ok r) → r.end ≡ e
-token_end_lem cap out j (Ok c) s e new r z = z.0
-token_end_lem cap out j (Err f) s e new r z = absurd z
-
+-- where a group ends
 pub fine_means : (n : ℕ) (text : List ℕ) (lo : ℕ) {o : Outcome} {a : Alg} {e : ℕ} → o ≡ means a e → Fine n text lo o → Sound n text lo a e
 fine_means n text lo q f = subst (Fine n text lo) q f
 

@@ -12,6 +12,7 @@ use Rattle.ground.proofs.ChoiceLaws.{between_bounds}
 use Rattle.tokens.specs.declared.Fault.{Fault}
 use Rattle.tokens.specs.Token.{fault}
 use Rattle.scramble_parser.specs.Inner.{in_text}
+use Rattle.ground.proofs.RefusalLaws.{refusal_back}
 use Rattle.move_lists.specs.Lists.{inverse}
 use Rattle.algorithm_parser.specs.Algorithm.{Alg, repeated, copies, expand}
 use Rattle.algorithm_parser.specs.Groups.{round_end, square_end, paired}
@@ -31,6 +32,10 @@ module _ (cap : ℕ) (out : List ℕ) (j s e : ℕ) where
   unfolding expand
   token_put (Ok d) {c} {new} {r} q f = let w : c ≡ d = cc in (refl, subst (λ (x : ℕ). Filled cap out j (x ∷ []) new r) w f)
   token_put (Err g) q f = let z : ◌≡◌ {A = ℕ} 0 1 = cc in absurd (omega arith)
+
+  pub token_bad : (t : Result ℕ Fault) {f : Fault} (new : List ℕ) → Err f ≡ in_text s t → Told cap out j (token_alone t s e) new (Err f)
+  token_bad (Ok d) new q = let z : ◌≡◌ {A = ℕ} 0 1 = cc in absurd (omega arith)
+  token_bad (Err g) new q = rw (refusal_back g.refusal) (let w : Err _ ≡ Err _ = q in cc)
 
 -- ---- the end of a round group
 

@@ -75,13 +75,6 @@ pub record Asked (n : ℕ) (text : List ℕ) (i cap : ℕ) (out : List ℕ) (j :
   pub within : i ≤ length text
   pub placed : Placed cap out j
 
--- the token from s to e
-pub record AskedToken (n : ℕ) (text : List ℕ) (s e cap : ℕ) (out : List ℕ) (j : ℕ) : Type 0 where
-  pub size : sized n ≡ true
-  pub some : s ≤ e
-  pub within : e ≤ length text
-  pub placed : Placed cap out j
-
 -- an algorithm's moves were put from j to next, where `start` was the output
 pub record Laid (cap : ℕ) (start : List ℕ) (j : ℕ) (a : Alg) (out : List ℕ) (next : ℕ) : Type 0 where
   pub filled : Filled cap start j (expand a) out next

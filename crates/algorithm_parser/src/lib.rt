@@ -5,13 +5,12 @@ ghost use Rattle.std.specs.Prelude.{◌≡◌, true, ◌||◌, List, [], ℕ, �
 ghost use Rattle.generic_cube.specs.Sizes.{sized};
 ghost use Rattle.algorithm_parser.specs.Algorithm.{Alg};
 ghost use Rattle.algorithm_parser.specs.Groups.{round_end, square_end, paired, sequence_at, group_at, AlgorithmResult};
-ghost use Rattle.algorithm_parser.specs.Inner.{Repeat, Behind, token_at, Told, Asked, AskedToken, Laid, LaidBoth, Written};
+ghost use Rattle.algorithm_parser.specs.Inner.{Repeat, Behind, Told, Asked, Laid, LaidBoth, Written};
 
 use ground::codes::MoveCode;
 use ground::refusals::Refusal;
 use scramble_parser::ParseError;
 use tokens::Fault;
-use tokens::words::Word;
 
 pub mod moves;
 
@@ -53,19 +52,6 @@ fn repeat(b: u8) -> Option<u8>
         b'1'..=b'9' => Some(b - b'0'),
         _ => None,
     }
-}
-
-// The token that a word is, whose move goes to the place j.
-fn token(source: Source, word: Word, out: &mut [MoveCode], j: usize) -> Result<Read, Fault>
-    requires { AskedToken source.n source.text.now word.start word.end source.cap out.old j }
-    ensures { Told source.entry.cap out.old j (token_at source.entry.n source.entry.text.now word.start word.end) out.new result }
-{
-    let code = scramble_parser::read_word(source.n, source.text, word)?;
-    let next = moves::put(out, j, code, source.cap);
-    Ok(Read {
-        end: word.end,
-        next,
-    })
 }
 
 // The end of a round group, whose sequence was read and put from j on: `)`, and the copies that its repeat asks for.
@@ -137,7 +123,11 @@ fn sequence(
                 ..read
             });
         }
-        read = token(source, word, out, read.next)?;
+        let code = scramble_parser::read_word(source.n, source.text, word)?;
+        read = Read {
+            end: word.end,
+            next: moves::put(out, read.next, code, source.cap),
+        };
     }
     Ok(Read {
         end: source.text.len(),

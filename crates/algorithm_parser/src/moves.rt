@@ -48,7 +48,8 @@ fn put_part(out: &mut [MoveCode], j: usize, mid: usize, to: usize, cap: usize) -
     next
 }
 
-// The inverse of the moves from j to mid, from `to` on.
+// The inverse of the moves from j to mid, from `to` on. One function with put_part over a closure of the lent output would be no plainer: its
+// contract would have to say what each call of the closure asks and leaves.
 pub fn put_inverse(out: &mut [MoveCode], j: usize, mid: usize, to: usize, cap: usize) -> usize
     requires { Behind cap out.old j mid to }
     ensures { Appended cap inverse out.old j mid to out.new result }

@@ -9,7 +9,8 @@ use Rattle.tokens.specs.Token.{read_token}
 use Rattle.algorithm_parser.specs.Groups.{group_at}
 use Rattle.algorithm_parser.specs.Inner.{token_at}
 use Rattle.algorithm_parser.proofs.ReaderLaws.{at_none, parting_within}
-use Rattle.algorithm_parser.proofs.CycleLaws.{go_end, go_wrong, go_bad, go_more, word_deep, word_group, word_other, word_token, token_end_lem, group_end, Part_read, part_read, part_behind, parting_is, group_bad, group_round, group_no_sign, group_second_bad, group_square}
+use Rattle.algorithm_parser.proofs.CycleLaws.{go_end, go_wrong, go_bad, go_more, word_deep, word_group, word_other, word_token, group_end, Part_read, part_read, part_behind, parting_is, group_bad, group_round, group_no_sign, group_second_bad, group_square}
+use Rattle.algorithm_parser.proofs.TellingLaws.{token_put, token_bad}
 use Rattle.algorithm_parser.proofs.+group_sequence.Goals as goal
 
 pub group-returns-in_err-first : goal.group-returns-in_err-first
@@ -132,22 +133,24 @@ sequence-returns-then-is_group_sign m c =
     go_end c.loop-word.invariant
     (word_other a.source.n a.source.text.now a.left c.in-Some.ensures (sym c.is_opening.ensures ∙ c.if-is_opening.false) (sym c.is_group_sign.ensures ∙ c.if-is_group_sign.true))
 
-pub sequence-returns-in_err-read-2 : goal.sequence-returns-in_err-read-2
-sequence-returns-in_err-read-2 m c =
+pub sequence-returns-in_err-code : goal.sequence-returns-in_err-code
+sequence-returns-in_err-code m c =
     let a = c.args in
-    rw (passed_on _ c.from_residual-in_err-read-2.ensures.1)
-    (go_bad c.loop-word.invariant (token_at a.source.n a.source.text.now c.in-Some.word.start c.in-Some.word.end)
+    let w = c.in-Some.word in
+    rw (passed_on _ c.from_residual-in_err-code.ensures.1)
+    (go_bad c.loop-word.invariant (token_at a.source.n a.source.text.now w.start w.end)
     (word_token a.source.n a.source.text.now a.left c.in-Some.ensures (sym c.is_opening.ensures ∙ c.if-is_opening.false) (sym c.is_group_sign.ensures ∙ c.if-is_group_sign.false))
-    _ _ c.in_err-read-2.ensures)
+    _ _ (token_bad a.source.cap c.loop-word.out c.loop-word.read.next w.start w.end (read_token a.source.n (take (w.end - w.start) (drop w.start a.source.text.now))) _ c.in_err-code.ensures))
 
 pub sequence-loop-word-preserved : goal.sequence-loop-word-preserved
 sequence-loop-word-preserved m c =
     let a = c.args in
-    let w = c.in-Some.ensures in
-    let d = token_end_lem a.source.cap _ _ (read_token a.source.n (take (c.in-Some.word.end - c.in-Some.word.start) (drop c.in-Some.word.start a.source.text.now))) c.in-Some.word.start c.in-Some.word.end _ _ c.in_ok-read-2.ensures in
-    go_more c.loop-word.invariant (token_at a.source.n a.source.text.now c.in-Some.word.start c.in-Some.word.end)
-    (word_token a.source.n a.source.text.now a.left w (sym c.is_opening.ensures ∙ c.if-is_opening.false) (sym c.is_group_sign.ensures ∙ c.if-is_group_sign.false))
-    _ _ c.in_ok-read-2.ensures (omega (arith, w.from, w.some, d)) (omega (arith, w.within, d))
+    let w = c.in-Some.word in
+    let f = c.in-Some.ensures in
+    go_more c.loop-word.invariant (token_at a.source.n a.source.text.now w.start w.end)
+    (word_token a.source.n a.source.text.now a.left f (sym c.is_opening.ensures ∙ c.if-is_opening.false) (sym c.is_group_sign.ensures ∙ c.if-is_group_sign.false))
+    _ _ (token_put a.source.cap c.loop-word.out c.loop-word.read.next w.start w.end (read_token a.source.n (take (w.end - w.start) (drop w.start a.source.text.now))) c.in_ok-code.ensures c.put.ensures)
+    (omega (arith, f.from, f.some)) (omega (arith, f.within))
 
 pub sequence-returns : goal.sequence-returns
 sequence-returns m c =
