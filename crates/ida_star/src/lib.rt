@@ -120,7 +120,7 @@ fn check_late(n: usize, table: &[u8], limit: usize, work: usize) -> Result<(), R
     Ok(())
 }
 
-// The lowest refusal; the work area and the output by their lengths.
+// The lowest refusal, of what the entry is lent; the work area and the output by their lengths.
 fn check_search(
     n: usize,
     cube: &[u8],
@@ -150,6 +150,7 @@ fn check_search(
 }
 
 // A shortest allowed list of candidates that leads the cube to a goal of the table, if the table's numbers are admissible: how many moves it has.
+// Its parameters are those of the C function.
 pub fn ida_star(
     n: usize,
     cube: &[u8],

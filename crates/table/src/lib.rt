@@ -101,7 +101,7 @@ impl<'a> Entries<'a> {
     }
 }
 
-// The number of the entry with that key, or depth + 1 where there is none.
+// The number of the entry with that key, or depth + 1 where there is none: what its clause `state_number` says, and the search's theorems with it.
 pub fn number(table: &[u8], m: usize, depth: usize, key: &[u8]) -> usize
     requires { Lookup m table.now depth key.now }
     ensures { result ≡ state_number m table.now depth key.now }

@@ -83,7 +83,8 @@ fn append(table: &mut [u8], m: usize, i: usize, key: &[u8], number: u8)
     table[end] = number;
 }
 
-// Adds an entry to the end of the first `count`, if its key is of the classes and is not there already.
+// Adds an entry to the end of the first `count`, if its key is of the classes and is not there already. Here and below, what is lent and what changes
+// stay parameters: a struct that held the slices would need a clause for what becomes of each.
 fn enter(
     table: &mut [u8],
     m: usize,

@@ -87,7 +87,7 @@ fn is_digit(t: &[u8], i: usize) -> bool
     at(t, i).is_ascii_digit()
 }
 
-// The value of the digit at i, 10 for any other byte.
+// The value of the digit at i, 10 for any other byte, as its definition has it: `number` reads three places, of which it uses k.
 #[tactic(auto, unfolding(crate::specs::Token::is_digit, crate::specs::Token::digit_of, ground::specs::Choice::between))]
 fn digit(t: &[u8], i: usize) -> usize
     ensures { (result ≡ digit_of (get_or t.now i 0)) × (result ≤ 10) }
@@ -98,7 +98,7 @@ fn digit(t: &[u8], i: usize) -> usize
     }
 }
 
-// How many digits the token starts with, 4 for more than three.
+// How many digits the token starts with, 4 for more than three: what its clause promises other crates.
 pub fn digits(t: &[u8]) -> usize
     ensures { (result ≡ digits_of t.now) × (result ≤ 4) }
 {
@@ -229,7 +229,8 @@ fn read_numbered(n: usize, t: &[u8], k: usize) -> Result<MoveCode, Fault>
     refuse(Refusal::Ending, k + 1)
 }
 
-// Reads a token from left to right.
+// Reads a token from left to right. The size is a number that was tested: the definitions take numbers, and each clause over a type of its own
+// would unwrap it.
 #[tactic(auto, unfolding(crate::specs::Token::read_token))]
 pub fn read_token(n: usize, t: &[u8]) -> Result<MoveCode, Fault>
     requires { sized n ≡ true }
