@@ -10,7 +10,7 @@ use Rattle.std.specs.Prelude.{Ok, Err}
 use borrow.Author.Tests.{eq-eqb, ne_eqb}
 use Rattle.generic_cube.specs.Sizes.{sized}
 use Rattle.scramble_parser.specs.declared.ParseError.TheVariants.{At}
-use Rattle.scramble_parser.specs.Parse.{codes, bad, refused}
+use Rattle.scramble_parser.specs.Parse.{codes, bad, text_refused}
 use Rattle.scramble_parser.proofs.ParseLaws.{read_bad, read_short, read_good}
 use Rattle.algorithm_parser.specs.Algorithm.{Alg, expand}
 use Rattle.algorithm_parser.specs.Groups.{Outcome, means, whole, expanded, sequence_at, read_algorithm, algorithm_reading, AlgorithmResult}
@@ -51,7 +51,7 @@ module _ (n : ℕ) (text out : List ℕ) (s : sized n ≡ true) where
           let z : eqb r.end (length text) ≡ true = eq-eqb r.end (length text) (omega (arith, f.within)) in
           ap (λ (o : Outcome). expanded (whole text o)) w.1 ∙ rw z
 
-      pub answer_short : length out < r.next → AlgorithmResult n text out out (refused 6)
+      pub answer_short : length out < r.next → AlgorithmResult n text out out (text_refused 6)
       answer_short l = read_short n (algorithm_reading n text) out s reads (omega (arith, found.2.next))
 
       pub answer_good : {new : List ℕ} → r.next ≤ length out → Written (sequence_at n text 8 0) out new → AlgorithmResult n text out new (Ok r.next)

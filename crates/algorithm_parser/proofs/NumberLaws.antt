@@ -8,7 +8,7 @@ use lib.Dec.{eqb}
 use lib.ListN.{length, get_or, take, drop}
 use Rattle.std.specs.Prelude.{Result, Ok, Err}
 use Rattle.ground.specs.Choice.{pick, between}
-use Rattle.ground.specs.Refusals.{number_of, refusal}
+use Rattle.ground.specs.Refusals.{refusal_no, refusal}
 use Rattle.ground.proofs.RefusalLaws.{refusal_back}
 use Rattle.tokens.specs.declared.Fault.{Fault}
 use Rattle.tokens.specs.Inner.{Found}
@@ -22,7 +22,7 @@ use Rattle.algorithm_parser.proofs.ReaderLaws.{word_of, word_ends, calls_none, c
 
 abbrev pub Named : Outcome → Type 0
 Named (means a e) = Unit {0}
-Named (wrong k p) = number_of (refusal k) ≡ k
+Named (wrong k p) = refusal_no (refusal k) ≡ k
 
 named_pick : (b : Bool) (o o' : Outcome) → Named o → Named o' → Named (pick b o o')
 named_pick true o o' d d' = d
@@ -34,7 +34,7 @@ named_front a (wrong k p) d = d
 
 named_token : (t : Result ℕ Fault) (start : ℕ) (rest : Outcome) → Named rest → Named (token_then t start rest)
 named_token (Ok c) start rest d = named_front _ rest d
-named_token (Err f) start rest d = ap number_of (refusal_back f.refusal)
+named_token (Err f) start rest d = ap refusal_no (refusal_back f.refusal)
 
 module _ (n : ℕ) (text : List ℕ) where
   named_then : (mid : ℕ) (o : Outcome) (next : Alg → ℕ → Outcome) → Fine n text mid o → Named o
@@ -107,9 +107,9 @@ module _ (n : ℕ) (text : List ℕ) where
   unfolding read_algorithm sequence_at
   named_algorithm = named_whole _ (sequence_named (sequence_calls text 0) 8 0 (omega arith) (omega arith))
 
-  expanded_listed : (o : Outcome) → Named o → (k at : ℕ) → expanded o ≡ bad k at → number_of (refusal k) ≡ k
+  expanded_listed : (o : Outcome) → Named o → (k at : ℕ) → expanded o ≡ bad k at → refusal_no (refusal k) ≡ k
   expanded_listed (means a e) d k at q = let z : ◌≡◌ {A = ℕ} 0 1 = cc in absurd (omega arith)
-  expanded_listed (wrong j p) d k at q = let z : j ≡ k = cc in subst (λ (x : ℕ). number_of (refusal x) ≡ x) z d
+  expanded_listed (wrong j p) d k at q = let z : j ≡ k = cc in subst (λ (x : ℕ). refusal_no (refusal x) ≡ x) z d
 
-  pub algorithm_listed : (k at : ℕ) → algorithm_reading n text ≡ bad k at → number_of (refusal k) ≡ k
+  pub algorithm_listed : (k at : ℕ) → algorithm_reading n text ≡ bad k at → refusal_no (refusal k) ≡ k
   algorithm_listed k at e = expanded_listed (read_algorithm n text) named_algorithm k at e

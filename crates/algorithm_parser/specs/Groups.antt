@@ -2,7 +2,7 @@
 -- met is the first by place, and at one place a token's own, which has the lower number. `get_or text i 0` is the byte at i, 0 past the end.
 use Rattle.std.specs.Prelude.{ℕ, zero, suc, ◌+◌, ◌-◌, ◌*◌, Bool, true, false, ◌||◌, List, [], ◌∷◌, Result, Ok, Err, length, get_or, eqb}
 use Rattle.ground.specs.Choice.{pick, between}
-use Rattle.ground.specs.Refusals.{number_of}
+use Rattle.ground.specs.Refusals.{refusal_no}
 use Rattle.tokens.specs.Words.{group_signs, is_sign, Run, words_from}
 use Rattle.tokens.specs.Token.{read_token}
 use Rattle.tokens.specs.declared.Fault.{Fault}
@@ -39,7 +39,7 @@ sort_of b = pick (eqb b 40 || eqb b 91) opening (pick (is_sign group_signs b) ot
 -- a token that starts at `start`, in front of what follows it
 abbrev pub token_then : Result ℕ Fault → ℕ → Outcome → Outcome
 token_then (Ok c) start rest = front (move c) rest
-token_then (Err f) start rest = wrong (number_of f.refusal) (start + f.place)
+token_then (Err f) start rest = wrong (refusal_no f.refusal) (start + f.place)
 
 -- a group one level deeper, or a token, in front of the rest; 17: no level is left; any other sign ends the sequence before it
 abbrev pub word_then : Sort → ℕ → ℕ → Run → (ℕ → Outcome) → (ℕ → Outcome) → Outcome

@@ -2,7 +2,7 @@
 use Rattle.std.specs.Prelude.{ℕ, ◌+◌, ◌-◌, ◌≤◌, ◌<◌, min, ◌≡◌, true, false, List, Option, None, Some, Result, Ok, Err, length, take, drop}
 use Rattle.std.proofs.lemmas.List.Edits.{sets}
 use Rattle.ground.specs.Choice.{between}
-use Rattle.ground.specs.Refusals.{number_of}
+use Rattle.ground.specs.Refusals.{refusal_no}
 use Rattle.generic_cube.specs.Sizes.{sized}
 use Rattle.tokens.specs.Token.{fault, read_token}
 use Rattle.tokens.specs.declared.Fault.{Fault}
@@ -64,7 +64,7 @@ Told cap out j (wrong k p) new (Err f) = f ≡ fault k p
 -- what a token that stands from s to e reads as
 abbrev pub token_alone : Result ℕ Fault → ℕ → ℕ → Outcome
 token_alone (Ok c) s e = means (move c) e
-token_alone (Err f) s e = wrong (number_of f.refusal) (s + f.place)
+token_alone (Err f) s e = wrong (refusal_no f.refusal) (s + f.place)
 
 abbrev pub token_at : ℕ → List ℕ → ℕ → ℕ → Outcome
 token_at n text s e = token_alone (read_token n (take (e - s) (drop s text))) s e

@@ -29,7 +29,7 @@ pub struct Source<'a> {
     pub cap: usize,
 }
 
-// Whether a sign opens a group.
+// Whether a sign opens a group. `is_parting` asks the same of two other signs: with the signs as parameters neither question would have a name.
 fn is_opening(b: u8) -> bool
     ensures { result ≡ (eqb b 40 || eqb b 91) }
 {

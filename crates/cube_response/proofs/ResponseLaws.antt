@@ -15,7 +15,7 @@ use Rattle.ground.specs.Inner.{Put}
 use Rattle.ground.proofs.PutLaws.{put_then}
 use Rattle.std.specs.Prelude.{Result, Ok, Err}
 use Rattle.ground.specs.declared.refusals.Refusal.{Refusal}
-use Rattle.ground.specs.Refusals.{number_of, refusal}
+use Rattle.ground.specs.Refusals.{refusal_no, refusal}
 use Rattle.generic_cube.specs.Sizes.{sized, stickers}
 use Rattle.generic_cube.specs.Answers.{DoneWith}
 use Rattle.generic_cube.specs.Code.{list_refusal}
@@ -133,14 +133,14 @@ module _ (n : ℕ) (two old new : List ℕ) (s : sized n ≡ true) (h : length t
       let t : take count new ≡ cs = ap (take count) g ∙ take_at cs (drop (length cs) old) count m in
       record { fits = omega arith; is = q ∙ ap codes (sym t); taken = ap (list_refusal n) t ∙ reading_taken n (tokens_of two) cs q }
 
-  bad_reading : (r : Reading) (f : Fault) → reading n (tokens_of two) ≡ r → Err (At f) ≡ answer_of (length old) r → r ≡ bad (number_of f.refusal) f.place
+  bad_reading : (r : Reading) (f : Fault) → reading n (tokens_of two) ≡ r → Err (At f) ≡ answer_of (length old) r → r ≡ bad (refusal_no f.refusal) f.place
   bad_reading (codes cs) f q e =
       bool_cases (ltb (length old) (length cs))
       (λ v. let d : ◌≡◌ {A = Result ℕ ParseError} (Err (At f)) (Err (Refused (refusal 6))) = rw v at e in let z : ◌≡◌ {A = ℕ} 0 1 = cc in absurd (omega arith))
       (λ v. let d : ◌≡◌ {A = Result ℕ ParseError} (Err (At f)) (Ok (length cs)) = rw v at e in let z : ◌≡◌ {A = ℕ} 0 1 = cc in absurd (omega arith))
   bad_reading (bad k at) f q e =
       let d : f ≡ fault k at = cc in
-      ap (λ x. bad x at) (sym (reading_listed n (tokens_of two) k at q)) ∙ sym (ap (λ (x : Fault). bad (number_of x.refusal) x.place) d)
+      ap (λ x. bad x at) (sym (reading_listed n (tokens_of two) k at q)) ∙ sym (ap (λ (x : Fault). bad (refusal_no x.refusal) x.place) d)
 
   none_of : (r : Reading) (k : Refusal) → reading n (tokens_of two) ≡ r → Err (Refused k) ≡ answer_of (length old) r → ⊥
   none_of (bad k' at) k q e = let z : ◌≡◌ {A = ℕ} 0 1 = cc in omega arith
@@ -155,7 +155,7 @@ module _ (n : ℕ) (two old new : List ℕ) (s : sized n ≡ true) (h : length t
   parsed_moves {r} {count} q p = moves_of_lem (reading n (tokens_of two)) count refl (sym q ∙ parsed_is p) (filled_is p)
 
   pub parsed_bad : {r : Result ℕ ParseError} {f : Fault} → r ≡ Err (At f) → ParseResult n two old new r
-      → reading n (tokens_of two) ≡ bad (number_of f.refusal) f.place
+      → reading n (tokens_of two) ≡ bad (refusal_no f.refusal) f.place
   parsed_bad {r} {f} q p = bad_reading (reading n (tokens_of two)) f refl (sym q ∙ parsed_is p)
 
   pub parsed_never : {r : Result ℕ ParseError} {k : Refusal} → r ≡ Err (Refused k) → ParseResult n two old new r → ⊥

@@ -15,14 +15,14 @@ use Rattle.generic_cube.specs.Code.{outside}
 use Rattle.generic_cube.proofs.CodeLaws.{sized_bounds, inside}
 
 -- a letter that is found has the face's number, and where none is found that is 6
-pub found : (face k : ℕ) → position (λ x. x == face) letters ≡ Some k → k ≡ face_number face
-found face k e =
+pub letter_found : (face k : ℕ) → position (λ x. x == face) letters ≡ Some k → k ≡ face_number face
+letter_found face k e =
     bool_cases (ltb (face_number face) 6)
     (λ t. let q : ◌≡◌ {A = Option ℕ} (Some (face_number face)) (Some k) = rw t at e in cc)
     (λ t. let q : ◌≡◌ {A = Option ℕ} None (Some k) = rw t at e in let z : ◌≡◌ {A = ℕ} 0 1 = cc in absurd (omega arith))
 
-pub not_found : (face : ℕ) → position (λ x. x == face) letters ≡ None → face_number face ≡ 6
-not_found face e =
+pub letter_missing : (face : ℕ) → position (λ x. x == face) letters ≡ None → face_number face ≡ 6
+letter_missing face e =
     bool_cases (ltb (face_number face) 6)
     (λ t. let q : ◌≡◌ {A = Option ℕ} (Some (face_number face)) None = rw t at e in let z : ◌≡◌ {A = ℕ} 0 1 = cc in absurd (omega arith))
     (λ t. omega (arith, ltb-false _ _ t, prefix_len-le-length (λ x. not (x == face)) letters))
@@ -38,7 +38,7 @@ pub near : (n face i k : ℕ) → sized n ≡ true → position (λ x. x == face
 near n face i k e f o =
     let b = sized_bounds n e in
     let l : face_number face ≤ 6 = prefix_len-le-length (λ x. not (x == face)) letters in
-    let r = mul-le-mul {n₁ = k} {m₁ = n} {n₂ = 6} {m₂ = 104} (omega (arith, found face k f)) b.1 in
+    let r = mul-le-mul {n₁ = k} {m₁ = n} {n₂ = 6} {m₂ = 104} (omega (arith, letter_found face k f)) b.1 in
     let q = mul-le-mul b.1 b.1 in
     let s = inside 1 (n * n) i o in
     record { row = omega arith; side = mul-le-mul r b.1; some = s.0; most = omega arith }

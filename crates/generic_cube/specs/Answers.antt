@@ -2,7 +2,7 @@
 use Rattle.std.specs.Prelude.{ℕ, ◌≡◌, List, Result, Ok, Err, eqb}
 use Rattle.ground.specs.Choice.{pick}
 use Rattle.ground.specs.declared.refusals.Refusal.{Refusal}
-use Rattle.ground.specs.Refusals.{number_of, refusal}
+use Rattle.ground.specs.Refusals.{refusal_no, refusal}
 
 -- the answer of an entry: what it gives back, a count or an index, unless it is refused
 abbrev pub answer : {A : Type 0} → ℕ → A → Result A Refusal
@@ -19,7 +19,7 @@ unless k good old = pick (eqb k 0) good old
 -- the rules' number of each case, 0 where nothing is refused
 abbrev pub answer_no : {A : Type 0} → Result A Refusal → ℕ
 answer_no (Ok value) = 0
-answer_no (Err r) = number_of r
+answer_no (Err r) = refusal_no r
 
 -- and its value, 0 where something is refused
 abbrev pub answer_value : Result ℕ Refusal → ℕ

@@ -16,7 +16,7 @@ pub fn face_number(face: u8) -> Option<usize>
 }
 
 // The index of the sticker that is number `index` of a face.
-#[tactic(auto, using(crate::proofs::StickerLaws::found, crate::proofs::StickerLaws::not_found, crate::proofs::CodeLaws::sized_bounds), unfolding(crate::specs::StickerIndex::sticker_refusal, ground::specs::Refusals::lowest, crate::specs::StickerIndex::sticker_index))]
+#[tactic(auto, using(crate::proofs::StickerLaws::letter_found, crate::proofs::StickerLaws::letter_missing, crate::proofs::CodeLaws::sized_bounds), unfolding(crate::specs::StickerIndex::sticker_refusal, ground::specs::Refusals::lowest, crate::specs::StickerIndex::sticker_index))]
 pub fn sticker_index(n: usize, face: u8, index: usize) -> Result<usize, Refusal>
     ensures { result ≡ answer (sticker_refusal n face index) (sticker_index n face index) }
 {

@@ -29,7 +29,7 @@ use Rattle.ground.specs.declared.refusals.Refusal.TheVariants.{
   Sign,
   Level,
 }
-use Rattle.ground.specs.Refusals.{Row, lowest, number_of, refusal}
+use Rattle.ground.specs.Refusals.{Row, lowest, refusal_no, refusal}
 use Rattle.ground.proofs.ChoiceLaws.{bool_cases}
 
 -- no row applies
@@ -131,7 +131,7 @@ passed_on (Err y) p = ap Err p
 passed_on (Ok x) p = absurd p
 
 -- NUMBERS AND REFUSALS
-pub refusal_back : (r : Refusal) → refusal (number_of r) ≡ r
+pub refusal_back : (r : Refusal) → refusal (refusal_no r) ≡ r
 refusal_back Size = refl
 refusal_back Length = refl
 refusal_back Code = refl
@@ -148,7 +148,7 @@ refusal_back Sign = refl
 refusal_back Level = refl
 
 -- each has its own number, from 1 to 17
-pub number_low : (r : Refusal) → (1 ≤ number_of r) × (number_of r ≤ 17)
+pub number_low : (r : Refusal) → (1 ≤ refusal_no r) × (refusal_no r ≤ 17)
 number_low Size = (omega arith, omega arith)
 number_low Length = (omega arith, omega arith)
 number_low Code = (omega arith, omega arith)
@@ -165,12 +165,12 @@ number_low Sign = (omega arith, omega arith)
 number_low Level = (omega arith, omega arith)
 
 -- one row of the table, and the rows behind it
-at_row : (k i : ℕ) (c rest r : Refusal) → pick (eqb k i) c rest ≡ r → i ≡ number_of c → (rest ≡ r → k ≡ number_of r) → k ≡ number_of r
+at_row : (k i : ℕ) (c rest r : Refusal) → pick (eqb k i) c rest ≡ r → i ≡ refusal_no c → (rest ≡ r → k ≡ refusal_no r) → k ≡ refusal_no r
 at_row k i c rest r e n f =
-    bool_cases (eqb k i) (λ t. eqb-true k i t ∙ n ∙ ap number_of (rw t at e)) (λ t. f (rw t at e))
+    bool_cases (eqb k i) (λ t. eqb-true k i t ∙ n ∙ ap refusal_no (rw t at e)) (λ t. f (rw t at e))
 
 -- no other number has a refusal; the last of the table stands for every number that is not in it
-pub number_only : (k : ℕ) (r : Refusal) → refusal k ≡ r → (r ≡ Level → ⊥) → k ≡ number_of r
+pub number_only : (k : ℕ) (r : Refusal) → refusal k ≡ r → (r ≡ Level → ⊥) → k ≡ refusal_no r
 number_only k r e h =
     at_row k 1 Size _ r e refl (λ e. at_row k 2 Length _ r e refl (λ e. at_row k 3 Code _ r e refl (λ e. at_row k 5 Width _ r e refl
     (λ e. at_row k 6 Room _ r e refl (λ e. at_row k 7 Bounds _ r e refl (λ e. at_row k 8 Table _ r e refl (λ e. at_row k 9 Work _ r e refl
@@ -179,13 +179,13 @@ number_only k r e h =
 
 -- a number, and rows whose numbers stand in the table: computed tests
 abbrev pub listed : ℕ → Bool
-listed k = eqb (number_of (refusal k)) k
+listed k = eqb (refusal_no (refusal k)) k
 
 abbrev pub listed_rows : List Row → Bool
 listed_rows [] = true
 listed_rows (r ∷ rows) = pick (listed r.number) (listed_rows rows) false
 
-pub lowest_listed : (rows : List Row) → listed_rows rows ≡ true → (lowest rows ≡ 0 → ⊥) → number_of (refusal (lowest rows)) ≡ lowest rows
+pub lowest_listed : (rows : List Row) → listed_rows rows ≡ true → (lowest rows ≡ 0 → ⊥) → refusal_no (refusal (lowest rows)) ≡ lowest rows
 unfolding lowest
 lowest_listed [] l z = absurd (z refl)
 lowest_listed (r ∷ rows) l z =

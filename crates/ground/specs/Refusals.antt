@@ -20,21 +20,21 @@ use Rattle.ground.specs.declared.refusals.Refusal.TheVariants.{
 }
 
 -- the number of a refusal in the rules' table
-abbrev pub number_of : Refusal → ℕ
-number_of Size = 1
-number_of Length = 2
-number_of Code = 3
-number_of Width = 5
-number_of Room = 6
-number_of Bounds = 7
-number_of Table = 8
-number_of Work = 9
-number_of Index = 10
-number_of Letter = 12
-number_of Digits = 13
-number_of Ending = 14
-number_of Sign = 16
-number_of Level = 17
+abbrev pub refusal_no : Refusal → ℕ
+refusal_no Size = 1
+refusal_no Length = 2
+refusal_no Code = 3
+refusal_no Width = 5
+refusal_no Room = 6
+refusal_no Bounds = 7
+refusal_no Table = 8
+refusal_no Work = 9
+refusal_no Index = 10
+refusal_no Letter = 12
+refusal_no Digits = 13
+refusal_no Ending = 14
+refusal_no Sign = 16
+refusal_no Level = 17
 
 -- the refusal that has a number of that table
 abbrev pub refusal : ℕ → Refusal

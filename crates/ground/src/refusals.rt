@@ -21,9 +21,9 @@ pub enum Refusal {
 }
 
 impl From<Refusal> for u8 {
-    ghost use Rattle.ground.specs.Refusals.{number_of};
+    ghost use Rattle.ground.specs.Refusals.{refusal_no};
 
-    ghost from_gives = { λ r k. k ≡ number_of r };
+    ghost from_gives = { λ r k. k ≡ refusal_no r };
 
     fn from(refusal: Refusal) -> u8 {
         refusal as u8

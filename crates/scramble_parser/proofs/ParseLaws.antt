@@ -11,7 +11,7 @@ use lib.Seq.{sets, sets-eq, length-take-le}
 use Rattle.std.specs.Prelude.{Result, Ok, Err}
 use borrow.Author.Tests.{le-ltb, lt-ltb}
 use Rattle.ground.specs.declared.refusals.Refusal.{Refusal}
-use Rattle.ground.specs.Refusals.{number_of, refusal}
+use Rattle.ground.specs.Refusals.{refusal_no, refusal}
 use Rattle.ground.proofs.ChoiceLaws.{bool_cases}
 use Rattle.ground.proofs.RefusalLaws.{refusal_back}
 use Rattle.generic_cube.specs.Sizes.{sized}
@@ -23,7 +23,7 @@ use Rattle.tokens.specs.Inner.{Found}
 use Rattle.tokens.specs.declared.Fault.{Fault}
 use Rattle.tokens.proofs.WordLaws.{words_few}
 use Rattle.tokens.proofs.TokenLaws.{token_good, place_within}
-use Rattle.scramble_parser.specs.Parse.{Reading, codes, bad, ahead, reading, refused, refused_at, read_answer, read_out, ReadResult, scramble_reading, ParseResult}
+use Rattle.scramble_parser.specs.Parse.{Reading, codes, bad, ahead, reading, text_refused, refused_at, read_answer, read_out, ReadResult, scramble_reading, ParseResult}
 use Rattle.scramble_parser.specs.Inner.{in_text, tally, up_to, prefix}
 use Rattle.scramble_parser.specs.declared.ParseError.TheVariants.{At}
 
@@ -134,7 +134,7 @@ bad_of (bad k at) e = (k, at, refl, cc)
 
 -- what a reader answers, by what its text reads as
 module _ (n : ℕ) (r : Reading) (out : List ℕ) where
-  pub read_size : sized n ≡ false → ReadResult n r out out (refused 1)
+  pub read_size : sized n ≡ false → ReadResult n r out out (text_refused 1)
   unfolding read_answer read_out
   read_size s = record { answered = rw s; written = rw s }
 
@@ -144,7 +144,7 @@ module _ (n : ℕ) (r : Reading) (out : List ℕ) where
     read_bad b = record { answered = simp (s, b); written = simp (s, b) }
 
     module _ {cs : List ℕ} (g : r ≡ codes cs) where
-      pub read_short : length out < length cs → ReadResult n r out out (refused 6)
+      pub read_short : length out < length cs → ReadResult n r out out (text_refused 6)
       unfolding read_answer read_out
       read_short h =
           let l = lt-ltb (length out) (length cs) h in
@@ -166,7 +166,7 @@ module _ (n : ℕ) (text out : List ℕ) (s : sized n ≡ true) where
     found_codes : (cs : List ℕ) × (scramble_reading n text ≡ codes cs) × (length cs ≡ count)
     found_codes = good_of (scramble_reading n text) count e
 
-    pub parse_short : length out < count → ParseResult n text out out (refused 6)
+    pub parse_short : length out < count → ParseResult n text out out (text_refused 6)
     parse_short h = let g = found_codes in read_short n (scramble_reading n text) out s g.1 (omega arith)
 
     module _ (h : count ≤ length out) where
@@ -180,15 +180,15 @@ module _ (n : ℕ) (text out : List ℕ) (s : sized n ≡ true) where
 
 -- ---- a text's refusal has a number of the table, so that its fault tells the whole reading
 
-ahead_listed : (t : Result ℕ Fault) (s : ℕ) (r : Reading) → ((k at : ℕ) → r ≡ bad k at → number_of (refusal k) ≡ k)
-    → (k at : ℕ) → ahead t s r ≡ bad k at → number_of (refusal k) ≡ k
+ahead_listed : (t : Result ℕ Fault) (s : ℕ) (r : Reading) → ((k at : ℕ) → r ≡ bad k at → refusal_no (refusal k) ≡ k)
+    → (k at : ℕ) → ahead t s r ≡ bad k at → refusal_no (refusal k) ≡ k
 ahead_listed (Err f) s r h k at e =
-    let q : number_of f.refusal ≡ k = cc in
-    subst (λ (x : ℕ). number_of (refusal x) ≡ x) q (ap number_of (refusal_back f.refusal))
+    let q : refusal_no f.refusal ≡ k = cc in
+    subst (λ (x : ℕ). refusal_no (refusal x) ≡ x) q (ap refusal_no (refusal_back f.refusal))
 ahead_listed (Ok c) s (codes cs) h k at e = let z : ◌≡◌ {A = ℕ} 0 1 = cc in absurd (omega arith)
 ahead_listed (Ok c) s (bad j p) h k at e = h k at e
 
-pub reading_listed : (n : ℕ) (ws : List Run) (k at : ℕ) → reading n ws ≡ bad k at → number_of (refusal k) ≡ k
+pub reading_listed : (n : ℕ) (ws : List Run) (k at : ℕ) → reading n ws ≡ bad k at → refusal_no (refusal k) ≡ k
 unfolding reading
 reading_listed n [] k at e = let z : ◌≡◌ {A = ℕ} 0 1 = cc in absurd (omega arith)
 reading_listed n (w ∷ ws) k at e = ahead_listed (read_token n w.bytes) w.start (reading n ws) (reading_listed n ws) k at e

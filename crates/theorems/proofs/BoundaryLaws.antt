@@ -7,7 +7,7 @@ use lib.ListN.{length}
 use borrow.Author.Tests.{lt-ltb}
 use Rattle.std.specs.Prelude.{Option, Some, None, Result, Ok, Err}
 use Rattle.ground.specs.declared.refusals.Refusal.{Refusal}
-use Rattle.ground.specs.Refusals.{number_of, refusal}
+use Rattle.ground.specs.Refusals.{refusal_no, refusal}
 use Rattle.ground.proofs.RefusalLaws.{number_low}
 use Rattle.generic_cube.proofs.AnswerLaws.{ok_number, number_told}
 use Rattle.generic_cube.specs.Answers.{answer_no, answer_value}
@@ -33,7 +33,7 @@ use Rattle.ida_star.specs.IdaStar.{reply, search_rows, search_refusal, outcome_v
 use Rattle.ida_star.proofs.IdaStarLaws.{search_taken}
 use Rattle.cubesim.specs.Pack.{pack}
 use Rattle.theorems.specs.Searching.{reply_told, Ran}
-use Rattle.theorems.specs.Boundary.{Fits, NumberBack, ValueBack, SearchCall, reply_read, TableRead, SearchTold, SearchRead, TableThenSearchRead, ToldOf, NumbersTold}
+use Rattle.theorems.specs.Boundary.{Fits, NumberBack, ValueBack, SearchCall, reply_read, TableRead, SearchTold, SearchRead, TableThenSearchRead, PlaceTold, NumbersTold}
 use Rattle.theorems.proofs.BuildingLaws.{exact_result, built_admits}
 use Rattle.theorems.proofs.SearchingLaws.{ran_told, best_answer}
 
@@ -57,7 +57,7 @@ value_is {r} {number} {value} e h f = ap (λ (x : ℕ). x / 256) e ∙ value_bac
 -- ---- the builder's answer
 
 -- a refusal's number is not 0
-refused_0 : {A : Type 0} {r : ℕ} (k : Refusal) → r ≡ pack (number_of k) 0 → r % 256 ≡ 0 → A
+refused_0 : {A : Type 0} {r : ℕ} (k : Refusal) → r ≡ pack (refusal_no k) 0 → r % 256 ≡ 0 → A
 refused_0 k e z = let l = number_low k in absurd (omega (arith, l.0, number_is e (omega (arith, l.1)) (omega arith) z))
 
 pub table_read : TableRead
@@ -132,7 +132,7 @@ table_then_search_read q starts table table' b f c z is undo work work' out out'
 
 -- ---- the number in an answer
 
-told_of : (n : ℕ) (r : Reading) (room : ℕ) → ((k at : ℕ) → r ≡ bad k at → number_of (refusal k) ≡ k) → ToldOf n r room
+told_of : (n : ℕ) (r : Reading) (room : ℕ) → ((k at : ℕ) → r ≡ bad k at → refusal_no (refusal k) ≡ k) → PlaceTold n r room
 unfolding read_answer
 told_of n r room h k at s e = rw (s, e) (h k at e, refl)
 

@@ -12,7 +12,7 @@ use borrow.Author.Tests.{ne_eqb, lt-ltb, le-leb, leb-true, eqb-true, eqb-false, 
 use Rattle.std.specs.Prelude.{Result, Ok, Err}
 use Rattle.ground.specs.declared.refusals.Refusal.{Refusal}
 use Rattle.ground.specs.declared.refusals.Refusal.TheVariants.{Level}
-use Rattle.ground.specs.Refusals.{number_of, refusal}
+use Rattle.ground.specs.Refusals.{refusal_no, refusal}
 use Rattle.ground.proofs.RefusalLaws.{refusal_back, number_only}
 use Rattle.tokens.specs.declared.Fault.{Fault}
 use Rattle.ground.specs.Choice.{pick, between}
@@ -296,11 +296,11 @@ no_5 _ _ _ (plain_left p rest h z x) e = omega arith
 no_5 _ _ _ (wide_left p rest h d x) e = omega arith
 
 -- a number of the table that is not its last, so that no other has the same refusal
-pub record Named (k : ℕ) : Type 0 where
-  pub number : number_of (refusal k) ≡ k
+pub record OwnNumber (k : ℕ) : Type 0 where
+  pub number : refusal_no (refusal k) ≡ k
   pub other : refusal k ≡ Level → ⊥
 
-named_5 : Named 5
+named_5 : OwnNumber 5
 named_5 = record { number = refl; other = λ e. let z : ◌≡◌ {A = ℕ} 0 1 = cc in omega arith }
 
 -- a token of the grammar has no fault
@@ -315,7 +315,7 @@ pub fault_found : FaultFound
 fault_found t =
     (λ h. fault_cases t (λ f. f) (λ g. absurd (h (token_move t (digits_of t)) (formed_shaped t g))), λ f m s. no_fault t m f s)
 
-named : (k p : ℕ) (t : List ℕ) → Faulty k p t → Named k
+named : (k p : ℕ) (t : List ℕ) → Faulty k p t → OwnNumber k
 named _ _ _ (zero_first rest) = record { number = refl; other = λ e. let z : ◌≡◌ {A = ℕ} 0 1 = cc in omega arith }
 named _ _ _ (four_digits a b c d rest ha hb hc hd) = record { number = refl; other = λ e. let z : ◌≡◌ {A = ℕ} 0 1 = cc in omega arith }
 named _ _ _ (no_letter_here rest d h none) = record { number = refl; other = λ e. let z : ◌≡◌ {A = ℕ} 0 1 = cc in omega arith }
@@ -323,11 +323,11 @@ named _ _ _ (no_w_here p rest h d some z) = record { number = refl; other = λ e
 named _ _ _ (plain_left p rest h z x) = record { number = refl; other = λ e. let z : ◌≡◌ {A = ℕ} 0 1 = cc in omega arith }
 named _ _ _ (wide_left p rest h d x) = record { number = refl; other = λ e. let z : ◌≡◌ {A = ℕ} 0 1 = cc in omega arith }
 
-refusing_named : (n k p : ℕ) (t : List ℕ) → Refusing n k p t → Named k
+refusing_named : (n k p : ℕ) (t : List ℕ) → Refusing n k p t → OwnNumber k
 refusing_named n k p t (for_fault f) = named k p t f
 refusing_named n _ _ t (for_width m s z) = named_5
 
-refusing_as : {n k k' p p' : ℕ} {t : List ℕ} → Named k → ◌≡◌ {A = Result ℕ Fault} (Err (fault k p)) (Err (fault k' p')) → Refusing n k p t
+refusing_as : {n k k' p p' : ℕ} {t : List ℕ} → OwnNumber k → ◌≡◌ {A = Result ℕ Fault} (Err (fault k p)) (Err (fault k' p')) → Refusing n k p t
     → Refusing n k' p' t
 refusing_as {n} {k} {k'} {p} {p'} {t} d e f =
     let z : fault k p ≡ fault k' p' = cc in
@@ -363,9 +363,9 @@ module _ (n k at : ℕ) (w : Run) (ws : List Run) (more : reading n ws ≡ bad k
   bad_cases : (t : Result ℕ Fault) (r : Reading) → read_token n w.bytes ≡ t → reading n ws ≡ r → ahead t w.start r ≡ bad k at → FirstBad n (w ∷ ws) k at
   unfolding reading
   bad_cases (Err f) r e d q =
-      let a : number_of f.refusal ≡ k = cc in
+      let a : refusal_no f.refusal ≡ k = cc in
       let b : w.start + f.place ≡ at = cc in
-      let g : Err f ≡ Err (fault (number_of f.refusal) f.place) = ap (λ (x : Refusal). Err (record { refusal = x; place = f.place })) (sym (refusal_back f.refusal)) in
+      let g : Err f ≡ Err (fault (refusal_no f.refusal) f.place) = ap (λ (x : Refusal). Err (record { refusal = x; place = f.place })) (sym (refusal_back f.refusal)) in
       record {
         before = [];
         word = w;
@@ -373,7 +373,7 @@ module _ (n k at : ℕ) (w : Run) (ws : List Run) (more : reading n ws ≡ bad k
         place = f.place;
         words_are = refl;
         fine = ([], refl);
-        refused = subst (λ (x : ℕ). Refusing n x f.place w.bytes) a (refused_why n w.bytes (number_of f.refusal) f.place (e ∙ g));
+        refused = subst (λ (x : ℕ). Refusing n x f.place w.bytes) a (refused_why n w.bytes (refusal_no f.refusal) f.place (e ∙ g));
         counted = sym b;
       }
   bad_cases (Ok c) (codes cs) e d q = let z : ◌≡◌ {A = ℕ} 0 1 = cc in absurd (omega arith)
@@ -412,7 +412,7 @@ module _ (n k at : ℕ) (rest : List Run) (h : reading n rest ≡ bad k at) wher
 found_bad : (n : ℕ) (ws : List Run) (k at : ℕ) → FirstBad n ws k at → reading n ws ≡ bad k at
 unfolding reading
 found_bad n ws k at f =
-    let d : number_of (refusal k) ≡ k = (refusing_named n k f.place f.word.bytes f.refused).number in
+    let d : refusal_no (refusal k) ≡ k = (refusing_named n k f.place f.word.bytes f.refused).number in
     let here : reading n (f.word ∷ f.after) ≡ bad k at = rw (why_refused n k f.place f.word.bytes f.refused) (rw d (ap (bad k) (sym f.counted))) in
     ap (reading n) f.words_are ∙ behind_read n k at (f.word ∷ f.after) here f.before f.fine.1
 

@@ -75,22 +75,22 @@ TableThenSearchRead =
 -- ---- the number in an answer
 
 -- it is the one that the entry's rows give, as each of them has a refusal of its own
-abbrev pub Told : ℕ → Type 0
-Told k = answer_no (done k) ≡ k
+abbrev pub NumberTold : ℕ → Type 0
+NumberTold k = answer_no (done k) ≡ k
 
 -- and of a text the one that its first bad token has
-abbrev pub ToldOf : ℕ → Reading → ℕ → Type 0
-ToldOf n r room = (k at : ℕ) → sized n ≡ true → r ≡ bad k at → (parsed_no (read_answer n r room) ≡ k) × (parsed_value (read_answer n r room) ≡ at)
+abbrev pub PlaceTold : ℕ → Reading → ℕ → Type 0
+PlaceTold n r room = (k at : ℕ) → sized n ≡ true → r ≡ bad k at → (parsed_no (read_answer n r room) ≡ k) × (parsed_value (read_answer n r room) ≡ at)
 
 pub record NumbersTold : Type 0 where
-  pub of_cube : (n long : ℕ) → Told (cube_refusal n long)
-  pub of_sticker : (n face i : ℕ) → Told (sticker_refusal n face i)
-  pub of_mask : (n cube : ℕ) (ids : List ℕ) (keep : ℕ) → Told (mask_refusal n cube ids keep)
-  pub of_list : (n cube work : ℕ) (moves : List ℕ) → Told (apply_refusal n cube work moves)
-  pub of_all_moves : (n room : ℕ) → Told (all_refusal n room)
-  pub of_scramble : (n : ℕ) (text : List ℕ) (room : ℕ) → ToldOf n (scramble_reading n text) room
-  pub of_algorithm : (n : ℕ) (text : List ℕ) (room : ℕ) → ToldOf n (algorithm_reading n text) room
-  pub of_writer : (n : ℕ) (moves : List ℕ) (room : ℕ) → Told (write_refusal n moves room)
-  pub of_same_length : (n : ℕ) (moves : List ℕ) (room : ℕ) → Told (same_refusal n moves room)
-  pub of_table : (n starts : ℕ) (moves : List ℕ) (depth : ℕ) → Told (early_refusal n starts moves depth)
-  pub of_search : (q : CubeSearch) (work out : ℕ) → Told (search_refusal q work out)
+  pub of_cube : (n long : ℕ) → NumberTold (cube_refusal n long)
+  pub of_sticker : (n face i : ℕ) → NumberTold (sticker_refusal n face i)
+  pub of_mask : (n cube : ℕ) (ids : List ℕ) (keep : ℕ) → NumberTold (mask_refusal n cube ids keep)
+  pub of_list : (n cube work : ℕ) (moves : List ℕ) → NumberTold (apply_refusal n cube work moves)
+  pub of_all_moves : (n room : ℕ) → NumberTold (all_refusal n room)
+  pub of_scramble : (n : ℕ) (text : List ℕ) (room : ℕ) → PlaceTold n (scramble_reading n text) room
+  pub of_algorithm : (n : ℕ) (text : List ℕ) (room : ℕ) → PlaceTold n (algorithm_reading n text) room
+  pub of_writer : (n : ℕ) (moves : List ℕ) (room : ℕ) → NumberTold (write_refusal n moves room)
+  pub of_same_length : (n : ℕ) (moves : List ℕ) (room : ℕ) → NumberTold (same_refusal n moves room)
+  pub of_table : (n starts : ℕ) (moves : List ℕ) (depth : ℕ) → NumberTold (early_refusal n starts moves depth)
+  pub of_search : (q : CubeSearch) (work out : ℕ) → NumberTold (search_refusal q work out)
