@@ -13,7 +13,7 @@ use crate::{lines, text};
 use ground::codes::MoveCode;
 use scramble_parser::ParseError;
 
-// A work area for the largest cube, and a slot for each byte of a line: a line holds fewer moves than that.
+// A work area for the largest cube, and a slot for each byte of a line: a line holds fewer moves than that. Fixed memory is a rule of the project.
 const WORK_AREA: [u8; 2400] = [0; 2400];
 
 const SLOTS: [MoveCode; 4096] = [0; 4096];

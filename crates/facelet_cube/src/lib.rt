@@ -52,7 +52,7 @@ impl Facelet for u8 {
     ghost clones = { λ x. (tt, λ y e. e) };
 
     fn blank() -> u8 {
-        0
+        0u8
     }
 
     fn shown_at(n: usize, j: usize) -> u8 {
@@ -73,7 +73,7 @@ impl Facelet for u16 {
     ghost clones = { λ x. (tt, λ y e. e) };
 
     fn blank() -> u16 {
-        0
+        0u16
     }
 
     fn shown_at(_n: usize, j: usize) -> u16 {

@@ -8,7 +8,8 @@ ghost use Rattle.geometric_moves.specs.Turn.{kind_face};
 ghost use Rattle.facelet_lanes.specs.InnerLanes.{ring_faces, ring_edges, frame_of, lane_of, ring_lane, ring_of, place_on, Spot};
 
 // Three rings for each face, four lanes to a ring: the sides, the face, the face opposite. A lane starts at an edge of a face: here are the
-// number of the face, and 0 for its first row, 1 for the last column, 2 for the last row, 3 for the first column.
+// number of the face, and 0 for its first row, 1 for the last column, 2 for the last row, 3 for the first column. They are numbers, as the
+// definitions `ring_faces` and `ring_edges` have them: an enum of edges would have to be numbered again in each clause.
 static RINGS: [[(usize, usize); 4]; 18] = [
     [(1, 0), (2, 0), (4, 0), (5, 0)],
     [(0, 0), (0, 1), (0, 2), (0, 3)],
@@ -69,7 +70,7 @@ fn edge_at(ring: usize, k: usize) -> (usize, usize)
 }
 
 // The corners of a face and the steps along its edges, written down once for the four lanes of a ring.
-#[derive(Clone, Copy)]
+#[derive(Clone, Copy, Debug, PartialEq, Eq)]
 struct Frame {
     n: usize,
     corner: [usize; 4],

@@ -66,7 +66,7 @@ fn turn_ring<T: Facelet>(
     }
 }
 
-// A whole face in quarters, where it is to turn.
+// A whole face in quarters, where it is to turn: a test of the caller's that the definition `face_turned` takes as well.
 fn turn_face<T: Facelet>(n: usize, t: usize, ring: usize, turns: bool, cube: &mut [T])
     requires { RingFits n ring 0 (n - n / 2) (n / 2) (length cube.old) }
     ensures { T.numbers cube.new ≡ face_turned n t ring turns (T.numbers cube.old) }

@@ -15,7 +15,7 @@ pub mod moves;
 pub mod stickers;
 
 // A move taken apart. Kinds: U 0, L 1, F 2, R 3, B 4, D 5, Uw 6, .., Dw 11, X 12, Y 13, Z 14. Turns: 1, 2, 3. A kind is a number and no enum,
-// as `move_of` takes every code apart, also one of kind 15, and the theorems speak of those.
+// as the definition `move_of` takes every code apart, also one of kind 15, and `code_back` and `bad_code` speak of those.
 #[derive(Clone, Copy, Debug, PartialEq, Eq)]
 pub struct Move {
     pub kind: usize,

@@ -120,7 +120,8 @@ fn check_late(n: usize, table: &[u8], limit: usize, work: usize) -> Result<(), R
     Ok(())
 }
 
-// The lowest refusal, of what the entry is lent; the work area and the output by their lengths.
+// The lowest refusal, of what the entry is lent; the work area and the output by their lengths. The parameters are the C function's, as below: a
+// struct of them would be built and read at this one place.
 fn check_search(
     n: usize,
     cube: &[u8],

@@ -4,16 +4,16 @@ use mathlib.Core.Path.{◌≡◌, sym, ap, subst, ◌∙◌}
 use mathlib.Core.Bool.{Bool, false, true≢false}
 use mathlib.Core.List.{List}
 use native.Mathlib.Omega.{arith}
-use lib.ListN.{length, get_or, set, length-set, get_or-replicate, get_or-eq_default}
+use lib.ListN.{length, get_or, set, length-set}
 use lib.Seq.{get_or-set_same, get_or-set_other}
 use borrow.Author.Count.{below_more}
-use Rattle.ground.proofs.ChoiceLaws.{order_cases, less_cases}
+use Rattle.ground.proofs.ChoiceLaws.{order_cases}
 use Rattle.table.specs.Entries.{entry_key, Present}
 use Rattle.std.specs.Prelude.{Some, None, IsTrue, ◌↔◌}
 use Rattle.key_index.specs.declared.Found.{Found}
 use Rattle.key_index.specs.declared.Found.TheVariants.{Here, Absent, Lost, Outside}
 use Rattle.key_index.specs.declared.Classes.{Classes}
-use Rattle.key_index.specs.InnerIndex.{classes, hash_of, class_of, run_start, OfClasses, Filed, Indexed, Free, Empty}
+use Rattle.key_index.specs.InnerIndex.{classes, hash_of, class_of, run_start, OfClasses, Filed, Indexed, Free}
 use Rattle.key_index.specs.Inner.{Probed, Met, Passed, Sought}
 use Rattle.key_index.proofs.WordLaws.{run_fits}
 

@@ -1,5 +1,5 @@
 // An index of a table's keys: slots that hold an entry's number plus 1, each in the run of slots that its key's hash gives. It tells
-// whether a key stands among entries that are in no order.
+// whether a key stands among entries that are in no order. A slot of 0 is empty: memory is fixed, and an `Option` would take twice as much of it.
 #![tactic(auto)]
 
 ghost use Rattle.std.specs.Prelude.{◌≡◌, ◌+◌, ◌≤◌, ◌<◌, ◌↔◌, length, IsTrue, OnOk, IfSome};

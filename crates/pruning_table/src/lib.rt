@@ -30,7 +30,7 @@ fn build(table: &mut [u8], job: Job, next: &mut [u8]) -> Option<usize>
     Some(count)
 }
 
-// The same, with room for a cube.
+// The same, with room for the largest cube that has tables, 6·7·7 stickers: a rule of the project, fixed memory.
 fn fill(table: &mut [u8], job: Job) -> Option<usize>
     ensures { Finished job.entry.n job.entry.starts.now job.entry.moves.now job.entry.depth table.old table.new result }
 {

@@ -10,7 +10,6 @@ use lib.ListN.{length, take, drop, set, length-set, length-drop}
 use lib.Seq.{sets, sets-eq, length-take-le}
 use Rattle.std.specs.Prelude.{Result, Ok, Err}
 use borrow.Author.Tests.{le-ltb, lt-ltb}
-use Rattle.ground.specs.declared.refusals.Refusal.{Refusal}
 use Rattle.ground.specs.Refusals.{refusal_no, refusal}
 use Rattle.ground.proofs.ChoiceLaws.{bool_cases}
 use Rattle.ground.proofs.RefusalLaws.{refusal_back}

@@ -52,7 +52,8 @@ pub fn read_word(n: usize, text: &[u8], word: Word) -> Result<MoveCode, Fault>
     }
 }
 
-// Reads the whole text and counts its moves, or finds its first bad token.
+// Reads the whole text and counts its moves, or finds its first bad token. The next search begins where a word ends: an iterator of words
+// would be a type of its own around that place, and no plainer.
 fn count_moves(n: usize, text: &[u8]) -> Result<usize, Fault>
     requires { sized n ≡ true }
     ensures { result ≡ tally 0 (reading n (tokens_of text.now)) }

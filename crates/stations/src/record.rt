@@ -155,7 +155,7 @@ fn put<T: Copy + Drop>(out: &mut Vec<T>, value: T, count: usize, room: usize) ->
     Ok(())
 }
 
-/// The bytes of a field.
+/// The bytes of a field. Each item takes a byte of the text or more, so that its length bounds the walk.
 fn bytes(alloc: Global, text: &[u8], room: usize) -> Result<Vec<u8>, Fault> {
     let mut out = Vec::new(alloc);
     let mut left = text;
@@ -188,7 +188,7 @@ fn numbers(alloc: Global, text: &[u8]) -> Result<Vec<u16>, Fault> {
     Ok(out)
 }
 
-/// The packed answer: `=`, a number and a value, one space between. What is no number is none that is given out.
+/// The packed answer: `=`, a number and a value, one space between. What is no number counts as the limit.
 fn answer(text: &[u8]) -> Option<u64> {
     let text = text.get(1..).unwrap_or(b"");
     let space = text.iter().position(|&b| b == b' ').unwrap_or(text.len());
@@ -206,7 +206,7 @@ fn fields(alloc: Global, line: &[u8]) -> Result<Vec<&[u8]>, Fault> {
     Ok(fields)
 }
 
-/// The six slices that begin at a field, `at(k)` being field k.
+/// The six slices of six fields.
 fn read_lent(alloc: Global, fields: &[&[u8]], third_room: usize) -> Result<Lent, Fault>
     requires { length fields.now ≡ 6 }
 {
@@ -232,7 +232,7 @@ fn head(fields: &[&[u8]]) -> Option<(Entry, usize, usize, usize, u64)>
 }
 
 impl Record {
-    pub fn read(alloc: Global, line: &[u8]) -> Result<Record, Fault> {
+    pub(crate) fn read(alloc: Global, line: &[u8]) -> Result<Record, Fault> {
         let fields = fields(alloc, line)?;
         let fields = fields.as_slice();
         if fields.len() != 17 {

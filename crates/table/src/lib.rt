@@ -15,7 +15,7 @@ fn two(s: &[u8], j: usize) -> u32
     requires { j + 2 ≤ length s.now }
     ensures { (result ≡ two_of s.now j) × (result < 65536) }
 {
-    256 * u32::from(s[j]) + u32::from(s[j + 1])
+    u32::from(u16::from_be_bytes([s[j], s[j + 1]]))
 }
 
 // Four bytes as a number.
@@ -23,10 +23,7 @@ fn four(s: &[u8], j: usize) -> u32
     requires { j + 4 ≤ length s.now }
     ensures { (result ≡ four_of s.now j) × (result < 4294967296) }
 {
-    16777216 * u32::from(s[j])
-        + 65536 * u32::from(s[j + 1])
-        + 256 * u32::from(s[j + 2])
-        + u32::from(s[j + 3])
+    u32::from_be_bytes([s[j], s[j + 1], s[j + 2], s[j + 3]])
 }
 
 // Six bytes as a number.
@@ -78,7 +75,8 @@ impl<'a> Entries<'a> {
         self.bytes[i * (self.m + 1) + self.m]
     }
 
-    // The number of the entry with that key, if there is one: of the `span` entries from `low` on, half at a time is left out.
+    // The number of the entry with that key, if there is one: of the `span` entries from `low` on, half at a time is left out. By hand, as the bytes
+    // are flat as C lends them: std's search wants a slice of entries, and how long one is only m says.
     pub fn find(self, key: &[u8]) -> Option<u8>
         requires { (length key.now ≡ self.m) × (well_formed self.m self.bytes.now ≡ true) }
         ensures { (d : ℕ) → unwrap_or result d ≡ number_for key.now d (entries_of self.entry.m self.entry.bytes.now) }

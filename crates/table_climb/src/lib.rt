@@ -25,7 +25,7 @@ pub enum Stop {
 }
 
 // How many passes more than one a level is likely to take with so many slots, of which a quarter is to stay empty: the entries grow as
-// they did at the level before, or at first by all candidates.
+// they did at the level before, or at first by all candidates. The counts are 0 where nothing stood before: they are counts, no marks.
 fn more_passes(stage: Stage, moves: usize, slots: usize) -> usize
     requires { moves ≤ 255 }
 {
@@ -64,7 +64,8 @@ fn file_all(entries: Entries, count: usize, index: &mut [u32], all: Classes) -> 
     key_index::file(entries, count, index, all)
 }
 
-// Level by level up to the depth with one index, which holds all entries and is kept from level to level, until it is outgrown.
+// Level by level up to the depth with one index, which holds all entries and is kept from level to level, until it is outgrown. The stage, which
+// is also what is told where it is outgrown, knows its level: a `for` would count that a second time. So below.
 fn climb(
     table: &mut [u8],
     job: Job,

@@ -11,6 +11,7 @@ use Rattle.ground.specs.Refusals.{refusal_no, refusal}
 use Rattle.ground.proofs.RefusalLaws.{number_low}
 use Rattle.generic_cube.proofs.AnswerLaws.{ok_number, number_told}
 use Rattle.generic_cube.specs.Answers.{answer_no, answer_value}
+use Rattle.generic_cube.specs.Code.{rows_in, refusal_in, list_rows, list_refusal}
 use Rattle.generic_cube.specs.AllMoves.{all_rows, all_refusal}
 use Rattle.generic_cube.specs.StickerIndex.{sticker_rows, sticker_refusal}
 use Rattle.move_lists.specs.Lists.{same_rows, same_refusal}
@@ -137,12 +138,14 @@ unfolding read_answer
 told_of n r room h k at s e = rw (s, e) (h k at e, refl)
 
 pub numbers_told : NumbersTold
-unfolding cube_refusal sticker_refusal mask_refusal apply_refusal all_refusal write_refusal same_refusal early_refusal search_refusal
+unfolding cube_refusal sticker_refusal mask_refusal list_refusal refusal_in apply_refusal all_refusal write_refusal same_refusal early_refusal search_refusal
 numbers_told =
     record {
       of_cube = λ n long. number_told (cube_rows n long) tt refl;
       of_sticker = λ n face i. number_told (sticker_rows n face i) tt refl;
       of_mask = λ n cube ids keep. number_told (mask_rows n cube ids keep) tt refl;
+      of_moves = λ n moves. number_told (list_rows n moves) tt refl;
+      of_moves_in = λ low high moves. number_told (rows_in low high moves) tt refl;
       of_list = λ n cube work moves. number_told (apply_rows n cube work moves) tt refl;
       of_all_moves = λ n room. number_told (all_rows n room) tt refl;
       of_scramble = λ n text room. told_of n (scramble_reading n text) room (reading_listed n (tokens_of text));

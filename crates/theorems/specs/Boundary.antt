@@ -2,6 +2,7 @@
 use Rattle.std.specs.Prelude.{ℕ, zero, suc, ◌/◌, ◌%◌, ◌<◌, ◌≡◌, true, List, length, take, Ok}
 use Rattle.generic_cube.specs.Answers.{done, answer_no, answer_value}
 use Rattle.generic_cube.specs.Sizes.{sized}
+use Rattle.generic_cube.specs.Code.{refusal_in, list_refusal}
 use Rattle.generic_cube.specs.AllMoves.{all_refusal}
 use Rattle.generic_cube.specs.StickerIndex.{sticker_refusal}
 use Rattle.move_lists.specs.Lists.{same_refusal}
@@ -86,6 +87,8 @@ pub record NumbersTold : Type 0 where
   pub of_cube : (n long : ℕ) → NumberTold (cube_refusal n long)
   pub of_sticker : (n face i : ℕ) → NumberTold (sticker_refusal n face i)
   pub of_mask : (n cube : ℕ) (ids : List ℕ) (keep : ℕ) → NumberTold (mask_refusal n cube ids keep)
+  pub of_moves : (n : ℕ) (moves : List ℕ) → NumberTold (list_refusal n moves)
+  pub of_moves_in : (low high : ℕ) (moves : List ℕ) → NumberTold (refusal_in low high moves)
   pub of_list : (n cube work : ℕ) (moves : List ℕ) → NumberTold (apply_refusal n cube work moves)
   pub of_all_moves : (n room : ℕ) → NumberTold (all_refusal n room)
   pub of_scramble : (n : ℕ) (text : List ℕ) (room : ℕ) → PlaceTold n (scramble_reading n text) room

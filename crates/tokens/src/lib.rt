@@ -34,7 +34,7 @@ pub struct Mark {
     pub size: usize,
 }
 
-// The byte at i, 0 past the end.
+// The byte at i, 0 past the end: what its clause promises other crates.
 pub fn at(t: &[u8], i: usize) -> u8
     ensures { result ≡ get_or t.now i 0 }
 {
@@ -87,7 +87,7 @@ fn is_digit(t: &[u8], i: usize) -> bool
     at(t, i).is_ascii_digit()
 }
 
-// The value of the digit at i, 10 for any other byte, as its definition has it: `number` reads three places, of which it uses k.
+// The value of the digit at i, 10 for any other byte: `number` reads three places and uses k of them, so that an `Option` would only be opened again.
 #[tactic(auto, unfolding(crate::specs::Token::is_digit, crate::specs::Token::digit_of, ground::specs::Choice::between))]
 fn digit(t: &[u8], i: usize) -> usize
     ensures { (result ≡ digit_of (get_or t.now i 0)) × (result ≤ 10) }

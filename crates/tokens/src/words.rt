@@ -70,7 +70,7 @@ fn word_end(grouped: bool, text: &[u8], i: usize) -> usize
     text.len()
 }
 
-// The first word from i on, in a text with groups or in one without.
+// The first word from i on, in a text with groups or in one without: the flag is the definition `signs_of`'s, and both ways end at one place.
 pub fn next_word(grouped: bool, text: &[u8], i: usize) -> Option<Word>
     requires { i ≤ length text.now }
     ensures { Ahead (signs_of grouped) text.now i result }
