@@ -26,8 +26,8 @@ fn as_built() {
         include_str!("../../../../crates/table_climb/src/lib.rt"),
     );
     for (text, line) in [
-        (table, "256 * u32::from(s[j]) + u32::from(s[j + 1])"),
-        (table, "16777216 * u32::from(s[j])\n        + 65536 * u32::from(s[j + 1])\n        + 256 * u32::from(s[j + 2])\n        + u32::from(s[j + 3])"),
+        (table, "u32::from(u16::from_be_bytes([s[j], s[j + 1]]))"),
+        (table, "u32::from_be_bytes([s[j], s[j + 1], s[j + 2], s[j + 3]])"),
         (table, "65536 * (four(s, j) as usize) + (two(s, j + 4) as usize)"),
         (index, "h = mix(h, table::word(key, 6 * k));"),
         (index, "(h + x % 4294967296 + x / 4294967296 * 40503) % 4294967296 * 2654435761 / 65536 % 4294967296"),
