@@ -14,7 +14,7 @@ use Rattle.table.specs.Inner.{word_of}
 use Rattle.table.proofs.OrderLaws.{decided, decided_less, decided-next, byte_step}
 
 module _ {v w : ℕ} (rest : Ordering) where
-  decided_more : w < v → decided v w rest ≡ Greater
+  pub decided_more : w < v → decided v w rest ≡ Greater
   unfolding decided
   decided_more gt = rw (le-ltb v w (omega arith), ne_eqb v w (λ e. omega arith))
 

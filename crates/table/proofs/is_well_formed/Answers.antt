@@ -15,12 +15,12 @@ pub loop-i-preserved : goal.loop-i-preserved
 unfolding order_of
 loop-i-preserved c =
     below_more _ _ c.loop-i.invariant
-    (λ some. order_told c.key.ensures c.key-in-loop-i.ensures c.cmp.ensures ∙ is_less_lem _ (sym c.is_lt.ensures ∙ c.if-not-is_lt.false))
+    (λ some. order_told c.key.ensures c.key-in-loop-i.ensures c.compare.ensures ∙ is_less_lem _ (sym c.is_lt.ensures ∙ c.if-not-is_lt.false))
 
 pub returns-then-not-is_lt : goal.returns-then-not-is_lt
 unfolding order_of
 returns-then-not-is_lt c =
-    sym (form_fails _ _ c.loop-i.i (omega arith) (omega arith) (ap is_lt (order_told c.key.ensures c.key-in-loop-i.ensures c.cmp.ensures) ∙ sym c.is_lt.ensures ∙ c.if-not-is_lt.true))
+    sym (form_fails _ _ c.loop-i.i (omega arith) (omega arith) (ap is_lt (order_told c.key.ensures c.key-in-loop-i.ensures c.compare.ensures) ∙ sym c.is_lt.ensures ∙ c.if-not-is_lt.true))
 
 pub returns : goal.returns
 returns c = sym (steps_formed _ _ (omega arith) (λ i lt. c.loop-i.invariant i (omega arith)))
