@@ -37,7 +37,7 @@ pub fn word(s: &[u8], j: usize) -> usize
 
 // How two keys of one length stand: by words, which tell keys of a sorted table apart sooner than std's comparison of slices does (with 621,649 entries
 // a search that asks std misses the crate's speed), and by that what no word holds.
-fn compare(a: &[u8], b: &[u8]) -> Ordering
+pub fn compare(a: &[u8], b: &[u8]) -> Ordering
     requires { length a.now ≡ length b.now }
     ensures { result ≡ order_of a.now b.now }
 {
