@@ -127,7 +127,15 @@ module _ {n : ℕ} {text : List ℕ} {left i cap : ℕ} {out₀ : List ℕ} {j :
               (told_front cap out next w.0 (sequence_at n text left r.end) g.placed w.2 last y z));
         }
 
--- where a group ends
+-- where a token or a group ends
+pub token_end_lem : (cap : ℕ) (out : List ℕ) (j : ℕ) (t : Result ℕ Fault) (s e : ℕ) (new : List ℕ) {r : Result Read Fault} {x : Read} → r ≡ Ok x
+    → Told cap out j (token_alone t s e) new r → x.end ≡ e
+token_end_lem cap out j t s e new {r} {x} y z = go t (subst (Told cap out j (token_alone t s e) new) y z)
+  where
+    go : (t : Result ℕ Fault) → Told cap out j (token_alone t s e) new (Ok x) → x.end ≡ e
+    go (Ok c) z = z.0
+    go (Err f) z = absurd z
+
 pub fine_means : (n : ℕ) (text : List ℕ) (lo : ℕ) {o : Outcome} {a : Alg} {e : ℕ} → o ≡ means a e → Fine n text lo o → Sound n text lo a e
 fine_means n text lo q f = subst (Fine n text lo) q f
 

@@ -41,9 +41,11 @@ fn put_part(out: &mut [MoveCode], j: usize, mid: usize, to: usize, cap: usize) -
     requires { Behind cap out.old j mid to }
     ensures { Appended cap (λ vs. vs) out.old j mid to out.new result }
 {
-    let next = plus(to, mid - j, cap);
+    let size = mid - j;
+    let next = plus(to, size, cap);
     if next <= out.len() {
-        out.copy_within(j..mid, to);
+        let (front, back) = out.split_at_mut(to);
+        ground::codes::copy(&front[j..mid], &mut back[..size]);
     }
     next
 }

@@ -1,7 +1,7 @@
 -- Laws of lines, of the size and of numbers in decimal; and that what lies behind the first 8,194 bytes changes nothing.
 use Prim.Native.Nat.{ℕ, zero, suc, ◌+◌, ◌-◌, ◌*◌, ◌/◌, ◌%◌, ◌^◌, ◌≤◌, ◌<◌}
 use mathlib.Core.Path.{◌≡◌, refl, sym, ap, subst, ◌∙◌}
-use mathlib.Core.Bool.{true, false, not, true≢false}
+use mathlib.Core.Bool.{true, false, not, ◌&&◌, true≢false}
 use mathlib.Core.List.{List, [], ◌∷◌, ◌++◌}
 use native.Mathlib.Omega.{arith}
 use native.Mathlib.Nat.{pow-suc, one-le-pow, pow-le-pow_right, zero-add, suc-add}
@@ -171,6 +171,13 @@ module _ (one : List ℕ) {k : ℕ} (d : k ≡ digits_of one) where
         pub size_is : n ≤ 20 → n ≡ size_of one
         unfolding size_of is_size
         size_is h = rw (← d, ← e, eq-eqb k k refl, few_digits, ne_eqb (get_or one 0 0) 48 z, ← q, le-leb n 20 h)
+
+-- a number above 20 is no size
+pub size_past : (one : List ℕ) → 20 < number_of (length one) one → size_of one ≡ 0
+unfolding size_of is_size
+size_past one h =
+    rw (lt-leb (number_of (length one) one) 20 h)
+    (bool_cases (eqb (digits_of one) (length one) && between 1 2 (length one) && not (eqb (get_or one 0 0) 48)) (λ t. rw t refl) (λ t. rw t refl))
 
 pub size_most : {n : ℕ} (one : List ℕ) → n ≡ size_of one → (n ≡ 0 → ⊥) → n ≤ 20
 size_most one e z = omega (arith, (size_of_lem one (λ q. z (e ∙ q))).most)

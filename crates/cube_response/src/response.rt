@@ -47,7 +47,7 @@ fn respond_to_scramble(n: usize, two: &[u8], out: &mut [u8]) -> usize
     match scramble_parser::parse_scramble(n, two, &mut codes) {
         Ok(count) => put_cube(n, &codes[..count], out),
         Err(error) => match error {
-            ParseError::At(fault) => text::put_refusal(fault, out),
+            ParseError::At(fault) => text::put_refusal(u8::from(fault.refusal), fault.place, out),
             ParseError::Refused(_) => unreachable!(),
         },
     }

@@ -1,11 +1,8 @@
 // Text put into the output, at a place. `respond` can't fail, so it writes into what it is lent, and no text is grown.
 ghost use Rattle.std.specs.Prelude.{◌++◌, ◌+◌, ◌≤◌, length};
 ghost use Rattle.ground.specs.Inner.{Put};
-ghost use Rattle.ground.specs.Refusals.{refusal_no};
 ghost use Rattle.cube_response.specs.Program.{decimal, refused_text, at_text, feed, Responds};
 ghost use Rattle.cube_response.specs.Inner.{PutNumber};
-
-use tokens::Fault;
 
 pub fn put(out: &mut [u8], at: usize, text: &[u8]) -> usize
     requires { at + length text.now ≤ length out.old }
@@ -27,14 +24,13 @@ pub fn put_decimal(out: &mut [u8], at: usize, x: usize) -> usize
 }
 
 // A refused scramble: the number, and the place in line two.
-pub fn put_refusal(fault: Fault, out: &mut [u8]) -> usize
+pub fn put_refusal(number: u8, place: usize, out: &mut [u8]) -> usize
     requires { 53 ≤ length out.old }
-    ensures { Responds (refused_text ++ (decimal (refusal_no fault.refusal) ++ (at_text ++ (decimal fault.place ++ feed)))) out.old out.new result }
+    ensures { Responds (refused_text ++ (decimal number ++ (at_text ++ (decimal place ++ feed)))) out.old out.new result }
 {
-    let number = u8::from(fault.refusal);
     let a = put(out, 0, b"refused ");
     let b = put_decimal(out, a, number as usize);
     let c = put(out, b, b" at ");
-    let d = put_decimal(out, c, fault.place);
+    let d = put_decimal(out, c, place);
     put(out, d, b"\n")
 }

@@ -1,12 +1,14 @@
 -- Laws of solved cubes, the solved test and masks.
 use Prim.Native.Nat.{ℕ, ◌+◌, ◌-◌, ◌*◌, ◌<◌, ◌≤◌}
 use mathlib.Core.Path.{◌≡◌, refl, sym, ap, subst, ◌∙◌}
-use mathlib.Core.Bool.{Bool, not}
+use mathlib.Core.Bool.{Bool, true, not}
 use mathlib.Core.List.{List, [], ◌∷◌, ◌++◌}
 use native.Mathlib.Omega.{arith}
-use native.Mathlib.Nat.{zero-add}
+use native.Mathlib.Nat.{zero-add, mul-le-mul_right, suc-mul, mul_assoc}
 use lib.Dec.{leb, eqb}
 use lib.ListN.{length, get_or, set, take, drop}
+use lib.Seq.{take_all}
+use lib.Pointwise.{pointwise}
 use borrow.Author.Tests.{eqb-true, eq-eqb, leb-false, not-false}
 use Rattle.std.specs.List.{list_any, list_all}
 use Rattle.ground.specs.Choice.{pick, any, all}
@@ -23,6 +25,7 @@ use Rattle.generic_cube.specs.Inner.{Sized}
 use Rattle.generic_cube.proofs.AnswerLaws.{err_number}
 use Rattle.generic_cube.proofs.CodeLaws.{size_in_range, bounds_sized}
 use Rattle.ground.proofs.PutLaws.{get_d_from}
+use Rattle.sticker.proofs.PlaceLaws.{room}
 use Rattle.facelet_cube.specs.InnerFacelets.{Pointwise}
 use Rattle.facelet_cube.specs.Inner.{Whole, Masks}
 use Rattle.facelet_cube.specs.Cube.{cube_rows, cube_refusal, one_byte, face_stickers, large_id, mask_rows, mask_refusal, masked}
@@ -105,6 +108,38 @@ pub mask_put : (n : ℕ) (ids keep : List ℕ) {l₀ l : List ℕ} {j : ℕ} →
     → length l₀ ≡ stickers n → l ≡ masked n l₀ ids keep
 unfolding masked
 mask_put n ids keep {l₀} c h e = fill_all c.filling (omega (arith, c.filling.long)) ∙ ap (λ m. tabulate m (mask_at l₀ ids keep)) e
+
+-- a face shows one byte exactly if each byte but the first is the one before it
+neighbours : (x : ℕ) (ys : List ℕ) → pointwise eqb ys (take (length ys) (x ∷ ys)) ≡ all (λ b. eqb b x) ys
+unfolding all
+neighbours x [] = refl
+neighbours x (y ∷ zs) =
+    bool_cases (eqb y x)
+    (λ t. rw t (neighbours y zs ∙ ap (λ (k : ℕ). all (λ b. eqb b k) zs) (eqb-true y x t)))
+    (λ t. rw t refl)
+
+pub one_byte_rest : (xs : List ℕ) → 0 < length xs
+    → pointwise eqb (take (length xs - 1) (drop 1 xs)) (take (length (take (length xs - 1) (drop 1 xs))) xs) ≡ one_byte xs
+unfolding one_byte all
+one_byte_rest [] h = absurd (omega arith)
+one_byte_rest (x ∷ ys) h = rw (take_all (length (x ∷ ys) - 1) ys (omega arith), eq-eqb x x refl) (neighbours x ys)
+
+pub one_byte_none : (xs : List ℕ) → length xs < 1 → true ≡ one_byte xs
+unfolding one_byte all
+one_byte_none [] h = refl
+one_byte_none (x ∷ ys) h = absurd (omega arith)
+
+-- a face is a part of its cube
+pub record FacePart (n k long : ℕ) : Type 0 where
+  pub whole_face_lem : k * (n * n) + n * n ≤ long
+  pub small : long ≤ 64896
+
+pub face_part : {n long : ℕ} (k : ℕ) → Whole n long → k < 6 → FacePart n k long
+face_part {n} {long} k w h =
+    let s = mul-le-mul_right (n * n) h in
+    let e = suc-mul k (n * n) in
+    let a = mul_assoc 6 n n in
+    record { whole_face_lem = omega (arith, w.long_is); small = omega (arith, w.long_is, room n w.size.size) }
 
 -- the k-th of the six is k, and the part that the code takes is its face
 pub face_nth : (k : ℕ) → k < 6 → get_or (0 ∷ 1 ∷ 2 ∷ 3 ∷ 4 ∷ 5 ∷ []) k 0 ≡ k

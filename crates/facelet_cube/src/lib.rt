@@ -2,7 +2,7 @@
 // the code that moves letters and ids is in facelet_moves.
 #![tactic(auto)]
 
-ghost use Rattle.std.specs.Prelude.{◌≡◌, ◌<◌, ◌/◌, ℕ, List, get_or};
+ghost use Rattle.std.specs.Prelude.{◌≡◌, ◌<◌, ◌/◌, ℕ, List, length, get_or};
 ghost use Rattle.generic_cube.specs.Answers.{done};
 ghost use Rattle.generic_cube.specs.Inner.{Sized};
 ghost use Rattle.generic_cube.specs.Sizes.{stickers, letters};
@@ -33,6 +33,11 @@ pub trait Facelet: Copy {
         requires { Sized n × (j < stickers n) }
         ensures { number result ≡ shown n j };
 
+    // Copies a cube. Letters are copied by hand, as `ground` says.
+    fn copy(from: &[Self], to: &mut [Self])
+        requires { length to.old ≡ length from.now }
+        ensures { to.new ≡ from.now };
+
     ghost laws: { Pointwise number numbers };
 
     // A clone is the element itself, so that a slice can be filled with one.
@@ -58,6 +63,10 @@ impl Facelet for u8 {
     fn shown_at(n: usize, j: usize) -> u8 {
         LETTERS[j / n / n]
     }
+
+    fn copy(from: &[u8], to: &mut [u8]) {
+        ground::bytes::copy(from, to);
+    }
 }
 
 // Ids: each sticker of the solved cube has its index.
@@ -78,6 +87,10 @@ impl Facelet for u16 {
 
     fn shown_at(_n: usize, j: usize) -> u16 {
         j as u16
+    }
+
+    fn copy(from: &[u16], to: &mut [u16]) {
+        to.copy_from_slice(from);
     }
 }
 

@@ -111,7 +111,7 @@ pub fn compute_permutation<T: Facelet>(n: usize, m: Move, old: &[T], new: &mut [
     requires { Turnable n m (length old.now) (length new.old) }
     ensures { T.numbers new.new ≡ moved n m (T.numbers old.now) }
 {
-    new.copy_from_slice(old);
+    T::copy(old, new);
     apply_move(n, m, new);
 }
 
@@ -141,43 +141,4 @@ pub fn apply_moves<T: Facelet>(
     run_moves(n, cube, moves);
     work.fill(T::blank());
     Ok(())
-}
-
-#[cfg(test)]
-mod tests {
-    use super::*;
-
-    // U: the first rows of the sides move on, R to F, F to L, L to B, B to R.
-    #[test]
-    fn turns_letters(rt: HostRuntime) {
-        let mut cube = [0u8; 54];
-        let mut work = [7u8; 54];
-        assert_eq!(rt; facelet_cube::cube::solved(3, &mut cube), Ok(()));
-        assert_eq!(rt; apply_moves(3, &mut cube, &mut work, &[1]), Ok(()));
-        assert_eq!(rt;
-            cube,
-            *b"UUUUUUUUUBBBRRRRRRRRRFFFFFFDDDDDDDDDFFFLLLLLLLLLBBBBBB"
-        );
-        assert_eq!(rt; work, [0; 54]);
-    }
-
-    #[test]
-    fn turns_ids(rt: HostRuntime) {
-        let mut ids = [0u16; 24];
-        let mut next = [0u16; 24];
-        let u = Move {
-            kind: 0,
-            width: 0,
-            turn: 1,
-        };
-        assert_eq!(rt; facelet_cube::cube::solved_ids(2, &mut ids), Ok(()));
-        compute_permutation(2, u, &ids, &mut next);
-        assert_eq!(rt;
-            next,
-            [
-                2, 0, 3, 1, 20, 21, 6, 7, 4, 5, 10, 11, 12, 13, 14, 15, 8, 9, 18, 19, 16, 17, 22,
-                23
-            ],
-        );
-    }
 }

@@ -5,7 +5,7 @@ ghost use Rattle.std.specs.Prelude.{◌≡◌, ◌+◌, ◌*◌, ◌≤◌};
 ghost use Rattle.ground.specs.Choice.{between};
 ghost use Rattle.generic_cube.specs.Sizes.{sized, small, beyond};
 ghost use Rattle.generic_cube.specs.Answers.{done};
-ghost use Rattle.generic_cube.specs.Code.{code_of, move_of, turned_to, is_wide, bad_width_in, outside, read_code, refusal_in, list_refusal, joins};
+ghost use Rattle.generic_cube.specs.Code.{code_of, move_of, turned_to, is_wide, bad_code, bad_width_in, outside, read_code, refusal_in, list_refusal, joins};
 ghost use Rattle.generic_cube.specs.Inner.{Codable};
 
 use ground::codes::MoveCode;
@@ -72,19 +72,42 @@ pub fn code_of(m: Move) -> MoveCode
     (m.width * 64 + m.kind * 4 + m.turn) as MoveCode
 }
 
+// How many widths the last six bits of a code leave it: none where they are no kind and turn, one, which is 0, where the kind has no width, and else all.
+static WIDTHS: [MoveCode; 64] = [
+    0, 1, 1, 1, 0, 1, 1, 1, 0, 1, 1, 1, 0, 1, 1, 1, 0, 1, 1, 1, 0, 1, 1, 1, 0, 1024, 1024, 1024, 0,
+    1024, 1024, 1024, 0, 1024, 1024, 1024, 0, 1024, 1024, 1024, 0, 1024, 1024, 1024, 0, 1024, 1024,
+    1024, 0, 1, 1, 1, 0, 1, 1, 1, 0, 1, 1, 1, 0, 0, 0, 0,
+];
+
+// Whether a code is no move's: one comparison, as every code of every list is tested.
+fn is_bad_code(code: MoveCode) -> bool
+    ensures { result ≡ bad_code (move_of code) }
+{
+    WIDTHS[(code % 64) as usize] <= code / 64
+}
+
+// Takes a code apart.
+#[tactic(auto, unfolding(crate::specs::Code::move_of))]
+fn parts_of(code: MoveCode) -> Move
+    ensures { result ≡ move_of code }
+{
+    let c = code as usize;
+    Move {
+        kind: c / 4 % 16,
+        width: c / 64,
+        turn: c % 4,
+    }
+}
+
 // Takes a code apart, or refuses it.
-#[tactic(auto, unfolding(crate::specs::Code::read_code, crate::specs::Code::bad_code, crate::specs::Code::move_of))]
+#[tactic(auto, unfolding(crate::specs::Code::read_code))]
 pub fn read_code(code: MoveCode) -> Result<Move, Refusal>
     ensures { result ≡ read_code code }
 {
-    let c = code as usize;
-    let kind = c / 4 % 16;
-    let width = c / 64;
-    let turn = c % 4;
-    if turn == 0 || kind == 15 || (!is_wide(kind) && width != 0) {
+    if is_bad_code(code) {
         return Err(Refusal::Code);
     }
-    Ok(Move { kind, width, turn })
+    Ok(parts_of(code))
 }
 
 // Whether a width is outside the range low to high.
@@ -139,14 +162,18 @@ fn is_bad_width(low: usize, high: usize, m: Move) -> bool
 pub fn check_moves_in(low: usize, high: usize, list: &[MoveCode]) -> Result<(), Refusal>
     ensures { result ≡ done (refusal_in low high list.now) }
 {
-    let mut answer = Ok(());
+    // A flag, as the answer of a `Result` that waits takes more than half as long again a code.
+    let mut has_bad_width = false;
     for &code in list {
         let m = read_code(code)?;
         if is_bad_width(low, high, m) {
-            answer = Err(Refusal::Width);
+            has_bad_width = true;
         }
     }
-    answer
+    if has_bad_width {
+        return Err(Refusal::Width);
+    }
+    Ok(())
 }
 
 // The refusal of a list that is applied, simplified, inverted or searched with.

@@ -49,6 +49,18 @@ over-between low high x a b = rw (le-leb low x a, lt-leb x high b)
 
 -- a walk that comes to place i: the test of what is left
 module _ (p : ℕ → Bool) (xs : List ℕ) (i : ℕ) where
+  pub any_here : i < length xs → p (get_or xs i 0) ≡ true → any p (drop i xs) ≡ true
+  unfolding any
+  any_here h t = rw (drop-cons xs i 0 h, t)
+
+  pub any_next : i < length xs → p (get_or xs i 0) ≡ false → any p (drop i xs) ≡ any p (drop (i + 1) xs)
+  unfolding any
+  any_next h t = rw (add-one i, drop-cons xs i 0 h, t)
+
+  pub any_end : length xs ≤ i → any p (drop i xs) ≡ false
+  unfolding any
+  any_end h = rw (drop_of_length-le xs h)
+
   pub all_here : i < length xs → p (get_or xs i 0) ≡ false → all p (drop i xs) ≡ false
   unfolding all
   all_here h t = rw (drop-cons xs i 0 h, t)

@@ -44,7 +44,7 @@ fn turn_level(n: usize, code: MoveCode, work: &mut [u8])
     };
     let s = 6 * n * n;
     let end = s + s;
-    ground::slices::double(s, &mut work[..end]);
+    ground::bytes::double(s, &mut work[..end]);
     facelet_moves::apply_move(n, m, &mut work[s..end]);
 }
 
@@ -82,7 +82,7 @@ impl<'a> Search<'a> {
         ensures { AnswerTold (dfs (cube_task self.entry.n self.entry.table.now self.entry.depth self.entry.moves.now) left [] cube.now) path.new result }
     {
         let s = 6 * self.n * self.n;
-        work[..s].copy_from_slice(cube);
+        ground::bytes::copy(cube, &mut work[..s]);
         self.dfs(work, path, 0, left)
     }
 
@@ -96,7 +96,7 @@ impl<'a> Search<'a> {
         let mut path: [MoveCode; 20] = [0; 20];
         for left in 0..limit + 1 {
             if let Some(count) = self.pass(cube, left, work, &mut path[..limit]) {
-                out[..count].copy_from_slice(&path[..count]);
+                ground::codes::copy(&path[..count], &mut out[..count]);
                 return Some(count);
             }
         }

@@ -76,6 +76,9 @@ module _ (c : ℕ) {m : Move} (e : Ok m ≡ read_code c) where
       let k = code_bounds c t.1 in
       record { room = rw taken_text at f; kind = rw t.0 k.1; width = rw t.0 (omega (arith, width_most c (omega arith))) }
 
+pub refused_text_lem : (c : ℕ) {r : Refusal} → Err r ≡ read_code c → text_of c ≡ []
+refused_text_lem c e = ap code_text (sym e)
+
 -- a text of a code has at most six bytes
 mark_most : (t : ℕ) → length (mark_text t) ≤ 1
 unfolding mark_text

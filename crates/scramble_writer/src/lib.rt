@@ -122,11 +122,46 @@ fn put_text(list: &[MoveCode], out: &mut [u8]) -> usize
     put_rest(out, at, rest)
 }
 
-// How many bytes the text of a code takes: where it ends in a text of its own.
+// How many bytes a turn's suffix takes. The lengths are counted by themselves: a text written for its length alone takes half as long again.
+#[tactic(auto, unfolding(crate::specs::Write::mark_text))]
+fn mark_len(turn: usize) -> usize
+    ensures { (result ≡ length (mark_text turn)) × (result ≤ 1) }
+{
+    if turn == 1 { 0 } else { 1 }
+}
+
+// How many bytes a width takes.
+#[tactic(auto, unfolding(crate::specs::Write::width_text))]
+fn width_len(width: usize) -> usize
+    ensures { (result ≡ length (width_text width)) × (result ≤ 3) }
+{
+    match width {
+        2 => 0,
+        0..=9 => 1,
+        10..=99 => 2,
+        _ => 3,
+    }
+}
+
+// How many bytes the token of a move takes.
+fn token_len(m: Move) -> usize
+    ensures { (result ≡ length (token_text m)) × (result ≤ 6) }
+{
+    let mark = mark_len(m.turn);
+    if generic_cube::is_wide(m.kind) {
+        return width_len(m.width) + (2 + mark);
+    }
+    1 + mark
+}
+
+// How many bytes the text of a code takes.
 fn code_len(code: MoveCode) -> usize
     ensures { (result ≡ length (text_of code)) × (result ≤ 6) }
 {
-    put_code(&mut [0; 6], 0, code)
+    match generic_cube::read_code(code) {
+        Ok(m) => token_len(m),
+        Err(_) => 0,
+    }
 }
 
 // Whether there is room for a space and a token for each code. What is left is counted, so that no sum can wrap.

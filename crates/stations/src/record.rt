@@ -1,39 +1,27 @@
-// What stands in a record: RECORDS.md says how it is written.
-ghost use Rattle.std.specs.Prelude.{◌≡◌, ◌<◌, length, IfSome};
+// What stands in a record: RECORDS.md says how it is written. Fixed memory is a rule of the project, so nothing here is grown.
+ghost use Rattle.std.specs.Prelude.{◌≡◌, ◌≤◌, ◌<◌, length, IfOk, IfSome};
 
-use std::alloc::{AllocError, AllocFailed, Global};
+/// How many fields a record has.
+pub const FIELDS: usize = 17;
 
-/// How much room a record's slices have: the third slice of bytes has less.
-const ROOM: usize = 65536;
+/// How much room a record's slices have: the third slice of bytes has less when it is lent.
+pub const ROOM: usize = 65536;
 
-const THIRD_ROOM: usize = 4096;
+pub const THIRD_ROOM: usize = 4096;
 
-const NUMBER_ROOM: usize = 1024;
+pub const NUMBER_ROOM: usize = 1024;
 
 /// Numbers are below this.
 const LIMIT: usize = 1_048_576;
 
 /// What is wrong with a record.
-#[derive(Debug, Drop)]
+#[derive(Clone, Copy, Debug, PartialEq, Eq)]
 pub enum Fault {
     /// The library gave something else.
     Differs,
 
     /// The line is no record.
     NoRecord,
-    OutOfMemory(AllocError),
-}
-
-impl<T: Drop> From<AllocFailed<T>> for Fault {
-    fn from(e: AllocFailed<T>) -> Fault {
-        Fault::OutOfMemory(AllocError::from(e))
-    }
-}
-
-impl From<AllocError> for Fault {
-    fn from(e: AllocError) -> Fault {
-        Fault::OutOfMemory(e)
-    }
 }
 
 /// The entry that a record calls.
@@ -82,29 +70,6 @@ impl Entry {
     }
 }
 
-/// The slices that an entry is lent, before the call or after it.
-#[derive(Debug, Drop, PartialEq)]
-pub struct Lent {
-    pub a: Vec<u8>,
-    pub b: Vec<u8>,
-    pub c: Vec<u8>,
-    pub x: Vec<u16>,
-    pub y: Vec<u16>,
-    pub z: Vec<u16>,
-}
-
-/// A call, and what the library must give.
-#[derive(Debug, Drop)]
-pub struct Record {
-    pub entry: Entry,
-    pub n: usize,
-    pub p: usize,
-    pub q: usize,
-    pub lent: Lent,
-    pub answer: u64,
-    pub after: Lent,
-}
-
 /// A decimal number below the limit.
 fn number(word: &[u8]) -> Option<usize>
     ensures { IfSome result (λ x. x < LIMIT) }
@@ -133,59 +98,96 @@ fn times(word: &[u8]) -> Option<(usize, usize)> {
     }
 }
 
-/// Takes the first item off a text that is not empty: a byte stands for itself, `#v;` for the byte v, `#vxk;` for k of them.
-fn item(text: &[u8]) -> Option<(u8, usize, &[u8])> {
-    let (&first, rest) = text.split_first()?;
-    if first != b'#' {
-        return Some((first, 1, rest));
-    }
-    let end = rest.iter().position(|&b| b == b';')?;
-    let (value, count) = times(&rest[..end])?;
-    Some((u8::try_from(value).ok()?, count, &rest[end + 1..]))
+/// What a slice is of: bytes, or numbers.
+pub trait Item: Copy + PartialEq {
+    /// Takes the first item off a text that is not empty: a value, how many times over, and what is left.
+    fn take(text: &[u8]) -> Option<(Self, usize, &[u8])>;
 }
 
-/// A value so many times more, as far as there is room.
-fn put<T: Copy + Drop>(out: &mut Vec<T>, value: T, count: usize, room: usize) -> Result<(), Fault> {
-    if room.saturating_sub(out.len()) < count {
-        return Err(Fault::NoRecord);
+/// A byte stands for itself, `#v;` for the byte v, `#vxk;` for k of them.
+impl Item for u8 {
+    fn take(text: &[u8]) -> Option<(u8, usize, &[u8])> {
+        let (&first, rest) = text.split_first()?;
+        if first != b'#' {
+            return Some((first, 1, rest));
+        }
+        let end = rest.iter().position(|&b| b == b';')?;
+        let (value, count) = times(&rest[..end])?;
+        Some((u8::try_from(value).ok()?, count, &rest[end + 1..]))
     }
-    for _ in 0..count {
-        out.push(value)?;
-    }
-    Ok(())
 }
 
-/// The bytes of a field. Each item takes a byte of the text or more, so that its length bounds the walk.
-fn bytes(alloc: Global, text: &[u8], room: usize) -> Result<Vec<u8>, Fault> {
-    let mut out = Vec::new(alloc);
+/// Numbers have one space between them.
+impl Item for u16 {
+    fn take(text: &[u8]) -> Option<(u16, usize, &[u8])> {
+        let end = text.iter().position(|&b| b == b' ').unwrap_or(text.len());
+        let (value, count) = times(&text[..end])?;
+        Some((
+            u16::try_from(value).ok()?,
+            count,
+            text.get(end + 1..).unwrap_or(b""),
+        ))
+    }
+}
+
+/// Puts the items of a field into a slice: how many there are. Each takes a byte of the text or more, so that its length bounds the walk.
+fn fill<T: Item>(text: &[u8], out: &mut [T]) -> Result<usize, Fault>
+    ensures { IfOk result (λ n. n ≤ length out.new) }
+{
+    let mut len = 0;
     let mut left = text;
     for _ in 0..text.len() {
         if left.is_empty() {
             break;
         }
-        let Some((value, count, rest)) = item(left) else {
+        let Some((value, count, rest)) = T::take(left) else {
             return Err(Fault::NoRecord);
         };
-        put(&mut out, value, count, room)?;
+        if out.len() - len < count {
+            return Err(Fault::NoRecord);
+        }
+        for slot in out[len..len + count].iter_mut() {
+            *slot = value;
+        }
+        len += count;
         left = rest;
     }
-    Ok(out)
+    Ok(len)
 }
 
-/// The numbers of a field, one space between them.
-fn numbers(alloc: Global, text: &[u8]) -> Result<Vec<u16>, Fault> {
-    let mut out = Vec::new(alloc);
-    for word in text.split_inclusive(|&b| b == b' ') {
-        let word = word.strip_suffix(b" ").unwrap_or(word);
-        let Some((value, count)) = times(word) else {
+/// The items of a field, in a slice of their own.
+pub fn lend<'a, T: Item>(text: &[u8], room: &'a mut [T]) -> Result<&'a mut [T], Fault> {
+    let len = fill(text, room)?;
+    Ok(&mut room[..len])
+}
+
+/// Whether a slice holds the items of a field, of which there are no more than there is room for.
+pub fn holds<T: Item>(text: &[u8], room: usize, slice: &[T]) -> Result<bool, Fault> {
+    let mut free = room;
+    let mut same = true;
+    let mut left = text;
+    let mut behind = slice;
+    for _ in 0..text.len() {
+        if left.is_empty() {
+            break;
+        }
+        let Some((value, count, rest)) = T::take(left) else {
             return Err(Fault::NoRecord);
         };
-        let Ok(value) = u16::try_from(value) else {
+        if free < count {
             return Err(Fault::NoRecord);
-        };
-        put(&mut out, value, count, NUMBER_ROOM)?;
+        }
+        free -= count;
+        if count <= behind.len() {
+            let (front, back) = behind.split_at(count);
+            same = same && front.iter().all(|x| *x == value);
+            behind = back;
+        } else {
+            same = false;
+        }
+        left = rest;
     }
-    Ok(out)
+    Ok(same && behind.is_empty())
 }
 
 /// The packed answer: `=`, a number and a value, one space between. What is no number counts as the limit.
@@ -198,66 +200,61 @@ fn answer(text: &[u8]) -> Option<u64> {
 }
 
 /// The fields of a line.
-fn fields(alloc: Global, line: &[u8]) -> Result<Vec<&[u8]>, Fault> {
-    let mut fields = Vec::new(alloc);
+#[derive(Clone, Copy)]
+struct Fields<'a> {
+    all: [&'a [u8]; FIELDS],
+}
+
+/// Parts a line into its fields, if it has so many.
+fn split_fields(line: &[u8]) -> Option<Fields<'_>> {
+    let mut fields = [b"".as_slice(); FIELDS];
+    let mut count = 0;
     for field in line.split(|&b| b == b'|') {
-        fields.push(field)?;
-    }
-    Ok(fields)
-}
-
-/// The six slices of six fields.
-fn read_lent(alloc: Global, fields: &[&[u8]], third_room: usize) -> Result<Lent, Fault>
-    requires { length fields.now ≡ 6 }
-{
-    Ok(Lent {
-        a: bytes(alloc, fields[0], ROOM)?,
-        b: bytes(alloc, fields[1], ROOM)?,
-        c: bytes(alloc, fields[2], third_room)?,
-        x: numbers(alloc, fields[3])?,
-        y: numbers(alloc, fields[4])?,
-        z: numbers(alloc, fields[5])?,
-    })
-}
-
-/// What stands beside the slices: the entry, its numbers and the answer.
-fn head(fields: &[&[u8]]) -> Option<(Entry, usize, usize, usize, u64)>
-    requires { length fields.now ≡ 17 }
-{
-    let entry = Entry::of(fields[0])?;
-    let n = number(fields[1])?;
-    let p = number(fields[2])?;
-    let q = number(fields[3])?;
-    Some((entry, n, p, q, answer(fields[10])?))
-}
-
-impl Record {
-    pub(crate) fn read(alloc: Global, line: &[u8]) -> Result<Record, Fault> {
-        let fields = fields(alloc, line)?;
-        let fields = fields.as_slice();
-        if fields.len() != 17 {
-            return Err(Fault::NoRecord);
+        if count == FIELDS {
+            return None;
         }
-        let Some((entry, n, p, q, answer)) = head(fields) else {
-            return Err(Fault::NoRecord);
-        };
-        let before = &fields[4..10];
+        fields[count] = field;
+        count += 1;
+    }
+    if count < FIELDS {
+        return None;
+    }
+    Some(Fields { all: fields })
+}
+
+/// A call, and what the library must give: the six slices, as they are lent and as they must be afterwards, stand in fields.
+#[derive(Clone, Copy, Debug)]
+pub struct Record<'a> {
+    pub entry: Entry,
+    pub n: usize,
+    pub p: usize,
+    pub q: usize,
+    pub before: [&'a [u8]; 6],
+    pub answer: u64,
+    pub after: [&'a [u8]; 6],
+}
+
+impl<'a> Record<'a> {
+    pub(crate) fn read(line: &'a [u8]) -> Option<Record<'a>> {
+        let fields = split_fields(line)?.all;
+        let mut before = [b"".as_slice(); 6];
         let mut after = [b"".as_slice(); 6];
         for k in 0..6 {
+            before[k] = fields[4 + k];
             after[k] = if fields[11 + k] == b"~".as_slice() {
-                before[k]
+                fields[4 + k]
             } else {
                 fields[11 + k]
             };
         }
-        Ok(Record {
-            entry,
-            n,
-            p,
-            q,
-            lent: read_lent(alloc, before, THIRD_ROOM)?,
-            answer,
-            after: read_lent(alloc, &after, ROOM)?,
+        Some(Record {
+            entry: Entry::of(fields[0])?,
+            n: number(fields[1])?,
+            p: number(fields[2])?,
+            q: number(fields[3])?,
+            before,
+            answer: answer(fields[10])?,
+            after,
         })
     }
 }

@@ -178,3 +178,6 @@ seat_in n B c r hc hr = omega arith
 pub sticker_in : (n : ℕ) (p : Pos) → Sticker n p → InCube n p
 sticker_in n p s =
     subst (InCube n) s.here (seat_in n s.slot.face s.slot.col s.slot.row s.real.col_ok s.real.row_ok)
+
+pub face_number_lem : (n j : ℕ) → 0 < n → j < 6 * n * n → j / n / n < 6
+face_number_lem n j h hj = (div-lt_iff_lt-mul h).1 ((div-lt_iff_lt-mul h).1 hj)

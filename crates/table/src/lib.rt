@@ -35,6 +35,16 @@ pub fn word(s: &[u8], j: usize) -> usize
     65536 * (four(s, j) as usize) + (two(s, j + 4) as usize)
 }
 
+// How what no word holds of two keys stands: by std's comparison, which stands apart, as `compare` would be too large to be written into the halving
+// of a lookup with it.
+#[inline(never)]
+#[tactic(auto, unfolding(crate::specs::Order::order_of))]
+fn compare_rest(a: &[u8], b: &[u8]) -> Ordering
+    ensures { result ≡ order_of a.now b.now }
+{
+    a.cmp(b)
+}
+
 // How two keys of one length stand: by words, which tell keys of a sorted table apart sooner than std's comparison of slices does (with 621,649 entries
 // a search that asks std misses the crate's speed), and by that what no word holds.
 pub fn compare(a: &[u8], b: &[u8]) -> Ordering
@@ -52,7 +62,7 @@ pub fn compare(a: &[u8], b: &[u8]) -> Ordering
             return Ordering::Greater;
         }
     }
-    a[6 * words..].cmp(&b[6 * words..])
+    compare_rest(&a[6 * words..], &b[6 * words..])
 }
 
 // Entries in a slice: keys of m bytes, each with its number behind it.
@@ -85,7 +95,12 @@ impl<'a> Entries<'a> {
         requires { (i < entry_count self.m self.bytes.now) × (length key.now ≡ self.m) }
         ensures { IsTrue result ↔ (entry_key self.entry.m self.entry.bytes.now i ≡ key.now) }
     {
-        self.key(i) == key
+        let own = self.key(i);
+        // The first six bytes tell most keys apart: the library's comparison, which is called, looks at all of two keys.
+        if 6 <= own.len() && word(own, 0) != word(key, 0) {
+            return false;
+        }
+        own == key
     }
 
     // The number of entry i.

@@ -79,7 +79,7 @@ fn append(table: &mut [u8], m: usize, i: usize, key: &[u8], number: u8)
 {
     let from = i * (m + 1);
     let end = from + m;
-    table[from..end].copy_from_slice(key);
+    ground::bytes::copy(key, &mut table[from..end]);
     table[end] = number;
 }
 

@@ -1,13 +1,14 @@
 -- The packing undone, and demand 3 of the exported functions' answers.
 use Prim.Native.Nat.{ℕ, zero, suc, ◌/◌, ◌%◌, ◌≤◌, ◌<◌}
 use mathlib.Core.Path.{◌≡◌, refl, sym, ap, subst, ◌∙◌}
-use mathlib.Core.List.{List}
+use mathlib.Core.Bool.{true, false}
+use mathlib.Core.List.{List, [], ◌∷◌, ◌++◌}
 use native.Mathlib.Omega.{arith}
 use lib.ListN.{length}
 use borrow.Author.Tests.{lt-ltb}
 use Rattle.std.specs.Prelude.{Option, Some, None, Result, Ok, Err}
 use Rattle.ground.specs.declared.refusals.Refusal.{Refusal}
-use Rattle.ground.specs.Refusals.{refusal_no, refusal}
+use Rattle.ground.specs.Refusals.{◌when◌, refusal_no, refusal}
 use Rattle.ground.proofs.RefusalLaws.{number_low}
 use Rattle.generic_cube.proofs.AnswerLaws.{ok_number, number_told}
 use Rattle.generic_cube.specs.Answers.{answer_no, answer_value}
@@ -17,19 +18,19 @@ use Rattle.generic_cube.specs.StickerIndex.{sticker_rows, sticker_refusal}
 use Rattle.move_lists.specs.Lists.{same_rows, same_refusal}
 use Rattle.scramble_writer.specs.Write.{write_rows, write_refusal}
 use Rattle.tokens.specs.Words.{tokens_of}
-use Rattle.scramble_parser.specs.Parse.{Reading, bad, read_answer, scramble_reading}
+use Rattle.scramble_parser.specs.Parse.{Reading, codes, bad, read_answer, scramble_reading, parsed_no}
 use Rattle.scramble_parser.proofs.ParseLaws.{reading_listed}
 use Rattle.algorithm_parser.specs.Groups.{algorithm_reading}
 use Rattle.algorithm_parser.proofs.NumberLaws.{algorithm_listed}
 use Rattle.facelet_cube.specs.Apply.{apply_rows, apply_refusal}
 use Rattle.facelet_cube.specs.Cube.{cube_rows, cube_refusal, mask_rows, mask_refusal}
 use Rattle.table.proofs.TableLaws.{entries_most}
-use Rattle.generic_cube.specs.Sizes.{stickers}
+use Rattle.generic_cube.specs.Sizes.{sized, stickers}
 use Rattle.search_theory.specs.Search.{Reply, none, found, Task, passes, Best}
 use Rattle.search_theory.proofs.SearchLaws.{never_found, else_found}
 use Rattle.search_theory.proofs.PathFreeLaws.{sound, dfs_start}
 use Rattle.search_theory.specs.CubeSearch.{CubeSearch, task_of}
-use Rattle.pruning_table.specs.PruningTable.{early_rows, early_refusal, PruningTableResult}
+use Rattle.pruning_table.specs.PruningTable.{early_rows, early_refusal, outnumbered, pruning_refusal, PruningTableResult}
 use Rattle.ida_star.specs.IdaStar.{reply, search_rows, search_refusal, outcome_value, outcome_of, IdaStarResult}
 use Rattle.ida_star.proofs.IdaStarLaws.{search_taken}
 use Rattle.cubesim.specs.Pack.{pack}
@@ -137,8 +138,16 @@ told_of : (n : ℕ) (r : Reading) (room : ℕ) → ((k at : ℕ) → r ≡ bad k
 unfolding read_answer
 told_of n r room h k at s e = rw (s, e) (h k at e, refl)
 
+size_told : (n : ℕ) (r : Reading) (room : ℕ) → sized n ≡ false → parsed_no (read_answer n r room) ≡ 1
+unfolding read_answer
+size_told n r room s = rw s refl
+
+room_told : (n : ℕ) (cs : List ℕ) (room : ℕ) → sized n ≡ true → room < length cs → parsed_no (read_answer n (codes cs) room) ≡ 6
+unfolding read_answer
+room_told n cs room s h = rw (s, lt-ltb room (length cs) h) refl
+
 pub numbers_told : NumbersTold
-unfolding cube_refusal sticker_refusal mask_refusal list_refusal refusal_in apply_refusal all_refusal write_refusal same_refusal early_refusal search_refusal
+unfolding cube_refusal sticker_refusal mask_refusal list_refusal refusal_in apply_refusal all_refusal write_refusal same_refusal early_refusal pruning_refusal search_refusal
 numbers_told =
     record {
       of_cube = λ n long. number_told (cube_rows n long) tt refl;
@@ -150,8 +159,11 @@ numbers_told =
       of_all_moves = λ n room. number_told (all_rows n room) tt refl;
       of_scramble = λ n text room. told_of n (scramble_reading n text) room (reading_listed n (tokens_of text));
       of_algorithm = λ n text room. told_of n (algorithm_reading n text) room (algorithm_listed n text);
+      of_text_size = size_told;
+      of_text_room = room_told;
       of_writer = λ n moves room. number_told (write_rows n moves room) tt refl;
       of_same_length = λ n moves room. number_told (same_rows n moves room) tt refl;
       of_table = λ n starts moves depth. number_told (early_rows n starts moves depth) tt refl;
+      of_built = λ n starts moves depth table. number_told (early_rows n (length starts) moves depth ++ (6 when outnumbered n starts moves depth table ∷ [])) tt refl;
       of_search = λ q work out. number_told (search_rows q work out) tt refl;
     }

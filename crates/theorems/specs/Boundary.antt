@@ -1,5 +1,5 @@
 -- What a caller of the exported functions reads in the one number that each of them answers, and in the slices that it lent.
-use Rattle.std.specs.Prelude.{ℕ, zero, suc, ◌/◌, ◌%◌, ◌<◌, ◌≡◌, true, List, length, take, Ok}
+use Rattle.std.specs.Prelude.{ℕ, zero, suc, ◌/◌, ◌%◌, ◌<◌, ◌≡◌, true, false, List, length, take, Ok}
 use Rattle.generic_cube.specs.Answers.{done, answer_no, answer_value}
 use Rattle.generic_cube.specs.Sizes.{sized}
 use Rattle.generic_cube.specs.Code.{refusal_in, list_refusal}
@@ -7,13 +7,13 @@ use Rattle.generic_cube.specs.AllMoves.{all_refusal}
 use Rattle.generic_cube.specs.StickerIndex.{sticker_refusal}
 use Rattle.move_lists.specs.Lists.{same_refusal}
 use Rattle.scramble_writer.specs.Write.{write_refusal}
-use Rattle.scramble_parser.specs.Parse.{Reading, bad, read_answer, scramble_reading, parsed_no, parsed_value}
+use Rattle.scramble_parser.specs.Parse.{Reading, codes, bad, read_answer, scramble_reading, parsed_no, parsed_value}
 use Rattle.algorithm_parser.specs.Groups.{algorithm_reading}
 use Rattle.facelet_cube.specs.Apply.{apply_refusal}
 use Rattle.facelet_cube.specs.Cube.{cube_refusal, mask_refusal}
 use Rattle.search_theory.specs.Search.{Reply, none, found, Best}
 use Rattle.search_theory.specs.CubeSearch.{CubeSearch, task_of, AdmissibleTable}
-use Rattle.pruning_table.specs.PruningTable.{early_refusal, PruningTableResult}
+use Rattle.pruning_table.specs.PruningTable.{early_refusal, pruning_refusal, PruningTableResult}
 use Rattle.ida_star.specs.IdaStar.{reply, search_refusal, IdaStarResult, outcome_value}
 use Rattle.cubesim.specs.Pack.{pack, Packed}
 use Rattle.theorems.specs.Searching.{used, UndoThemselves}
@@ -93,7 +93,10 @@ pub record NumbersTold : Type 0 where
   pub of_all_moves : (n room : ℕ) → NumberTold (all_refusal n room)
   pub of_scramble : (n : ℕ) (text : List ℕ) (room : ℕ) → PlaceTold n (scramble_reading n text) room
   pub of_algorithm : (n : ℕ) (text : List ℕ) (room : ℕ) → PlaceTold n (algorithm_reading n text) room
+  pub of_text_size : (n : ℕ) (r : Reading) (room : ℕ) → sized n ≡ false → parsed_no (read_answer n r room) ≡ 1
+  pub of_text_room : (n : ℕ) (cs : List ℕ) (room : ℕ) → sized n ≡ true → room < length cs → parsed_no (read_answer n (codes cs) room) ≡ 6
   pub of_writer : (n : ℕ) (moves : List ℕ) (room : ℕ) → NumberTold (write_refusal n moves room)
   pub of_same_length : (n : ℕ) (moves : List ℕ) (room : ℕ) → NumberTold (same_refusal n moves room)
   pub of_table : (n starts : ℕ) (moves : List ℕ) (depth : ℕ) → NumberTold (early_refusal n starts moves depth)
+  pub of_built : (n : ℕ) (starts moves : List ℕ) (depth : ℕ) (table : List ℕ) → NumberTold (pruning_refusal n starts moves depth table)
   pub of_search : (q : CubeSearch) (work out : ℕ) → NumberTold (search_refusal q work out)

@@ -6,7 +6,7 @@ use mathlib.Core.Bool.{true, false, true≢false}
 use mathlib.Core.List.{List, [], ◌∷◌}
 use native.Mathlib.Omega.{arith}
 use lib.ListN.{length, get_or, get_or-eq_default}
-use lib.Dec.{ltb, eqb}
+use lib.Dec.{ltb, leb, eqb}
 use Rattle.std.specs.Prelude.{Result, Ok, Err}
 use Rattle.std.specs.Bool.{then_some}
 use borrow.Author.Tests.{eq-eqb, ne_eqb, le-ltb, lt-leb, le-leb, eqb-true, eqb-false, ltb-true, ltb-false, leb-false, not-false}
@@ -47,6 +47,17 @@ letter_packed b l h =
     bool_cases (ltb (packed_at b) 7)
     (λ t. let k = ltb-true (packed_at b) 7 t in rw t (rw t at e, omega arith))
     (λ t. rw t (sym (rw t at e)))
+
+-- the same for every letter, in one choice
+unfoldable pub letter_by : ℕ → ℕ
+letter_by b =
+    pick (ltb b 66) 9
+    (pick (leb b 85) (pick (eqb (packed_at b) 7) 9 (packed_at b))
+    (pick (ltb b 120) 9 (pick (leb b 122) (b - 114) 9)))
+
+pub letter_by_lem : (b : ℕ) → b < 256 → letter_by b ≡ letter_of b
+unfolding face_places letter_by letter_of position any_below
+letter_by_lem b h = eqb-true _ _ (tested (λ x. eqb (letter_by x) (letter_of x)) 256 refl b h)
 
 -- a digit is 48 and its value
 pub digit_back : (b : ℕ) → (digit_of b ≡ 10 → ⊥) → (b ≡ 48 + digit_of b) × (digit_of b < 10)

@@ -1,5 +1,5 @@
 -- Laws of words: one byte on, the walk over spaces, the walk over a word, and how many there are.
-use Prim.Native.Nat.{ℕ, zero, suc, ◌+◌, ◌-◌, ◌≤◌, ◌<◌}
+use Prim.Native.Nat.{ℕ, zero, suc, ◌+◌, ◌-◌, ◌/◌, ◌%◌, ◌^◌, ◌≤◌, ◌<◌}
 use mathlib.Core.Path.{◌≡◌, refl, sym, ap, ◌∙◌}
 use mathlib.Core.Bool.{Bool, true, false, true≢false}
 use mathlib.Core.List.{List, [], ◌∷◌, ◌++◌, append_assoc, append-nil}
@@ -7,10 +7,30 @@ use native.Mathlib.Omega.{arith}
 use native.Mathlib.Numerals.{add-one}
 use lib.ListN.{length, get_or, take, drop, length-drop, drop_of_length-le}
 use lib.Seq.{drop-cons, take-suc, get_or-drop}
-use Rattle.ground.specs.Choice.{any}
-use Rattle.ground.proofs.ChoiceLaws.{bool_cases, less_cases}
-use Rattle.tokens.specs.Words.{is_space, is_sign, ends_word, Run, word_bytes, words, words_from}
+use lib.Dec.{eqb, ltb}
+use borrow.Author.Tests.{eqb-true}
+use Rattle.ground.specs.Choice.{pick, any}
+use Rattle.ground.proofs.ChoiceLaws.{bool_cases, less_cases, any_below, tested}
+use Rattle.tokens.specs.Words.{is_space, group_signs, is_sign, ends_word, Run, word_bytes, words, words_from}
 use Rattle.tokens.specs.Inner.{Skipped, Found}
+
+-- ---- the signs of groups
+
+-- the way to a sign by the code: a bit for each byte, from ( on
+unfoldable pub sign_bits : ℕ
+sign_bits = 11258999068688403
+
+abbrev pub sign_at : ℕ → ℕ
+sign_at b = sign_bits / 2 ^ (b - 40) % 2
+
+unfoldable pub sign_bit : ℕ → ℕ
+sign_bit b = pick (ltb b 40) 0 (pick (ltb 93 b) 0 (sign_at b))
+
+pub sign_by : (b : ℕ) → b < 256 → eqb (sign_bit b) 1 ≡ is_sign group_signs b
+unfolding sign_bits sign_bit is_sign any any_below
+sign_by b h =
+    let e : sign_bit b ≡ pick (is_sign group_signs b) 1 0 = eqb-true _ _ (tested (λ x. eqb (sign_bit x) (pick (is_sign group_signs x) 1 0)) 256 refl b h) in
+    ap (λ (k : ℕ). eqb k 1) e ∙ bool_cases (is_sign group_signs b) (λ t. rw t) (λ t. rw t)
 
 -- ---- words, one byte on
 

@@ -17,12 +17,20 @@ fn is_space(b: u8) -> bool
     matches!(b, b' ' | b'\t'..=b'\r')
 }
 
+// The signs of groups by their bytes, from `(` on, a bit each: a match of the bytes jumps through a table for each byte of a word.
+const SIGNS: u64 = 11258999068688403;
+
 // Whether a byte is one of the signs of groups: ( ) [ ] , :
-#[tactic(auto, unfolding(crate::specs::Words::is_sign, ground::specs::Choice::any))]
 pub fn is_group_sign(b: u8) -> bool
     ensures { result ≡ is_sign group_signs b }
 {
-    matches!(b, b'(' | b')' | b'[' | b']' | b',' | b':')
+    if b < 40 {
+        return false;
+    }
+    if 93 < b {
+        return false;
+    }
+    (SIGNS >> (b - 40)) % 2 == 1
 }
 
 // Whether a byte is a sign, in a text with groups or in one without.

@@ -29,11 +29,10 @@ loop-i-preserved c =
     (stepped (goal.at.loop-i-preserved c).After-word-y) ∙ decided-next _ c.if-x-y.false c.if-y-x.false
 
 pub returns : goal.returns
-unfolding order_of
 returns c =
     let a = c.args.a.now in
     let b = c.args.b.now in
     let k = 6 * (length a / 6) in
-    c.cmp.ensures
+    c.compare_rest.ensures
     ∙ ap₂ order_of (take_all (length a - k) (drop k a) (omega (arith, length-drop k a))) (take_all (length b - k) (drop k b) (omega (arith, length-drop k b)))
     ∙ sym (subst (λ i. order_of a b ≡ order_of (drop (6 * i) a) (drop (6 * i) b)) (omega arith) c.loop-i.invariant)

@@ -29,7 +29,7 @@ returns-in-Ok c =
 pub returns-in-At : goal.returns-in-At
 returns-in-At c =
     responds (ap (scramble_answer c.args.n) (parsed_bad _ _ _ _ (size_taken c.requires.0) c.requires.1 (c.in-Err.is ∙ ap Err c.in-At.is) c.parse_scramble.ensures))
-    c.put_refusal.ensures
+    (rw c.from.ensures at c.put_refusal.ensures)
 
 pub unreachable-requires : goal.unreachable-requires
 unreachable-requires c = parsed_never _ _ _ _ (size_taken c.requires.0) c.requires.1 (c.in-Err.is ∙ ap Err c.in-Refused.is) c.parse_scramble.ensures

@@ -3,4 +3,4 @@ use Rattle.cube_response.proofs.ResponseLaws.{put_parts}
 use Rattle.cube_response.proofs.text.put_refusal.Goals as goal
 
 pub returns : goal.returns
-returns c = rw c.from-number.ensures at (put_parts c.requires c.put-a.ensures c.put_decimal-b.ensures c.put-c.ensures c.put_decimal-d.ensures c.put.ensures)
+returns c = put_parts c.requires c.put-a.ensures c.put_decimal-b.ensures c.put-c.ensures c.put_decimal-d.ensures c.put.ensures

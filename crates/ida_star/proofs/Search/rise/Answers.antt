@@ -16,7 +16,7 @@ returns-in-Some c =
     length-take-le _ c.loop-left.path (omega (arith, c.loop-left.invariant.1, c.requires.starting.low)) in
     passes_hit c.loop-left.invariant.0 (omega arith) c.pass.ensures c.in-Some.is
     (drop c.args.limit c.loop-left.path) (c.pass.auto.path ∙ slots_lent)
-    (ap (λ x. x ++ drop c.in-Some.count c.loop-left.out) c.copy_from_slice.ensures.after)
+    (ap (λ x. x ++ drop c.in-Some.count c.loop-left.out) c.copy.ensures)
 
 pub loop-left-preserved : goal.loop-left-preserved
 loop-left-preserved c =
