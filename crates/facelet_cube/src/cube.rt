@@ -91,14 +91,13 @@ pub fn is_solved(n: usize, cube: &[u8]) -> Result<bool, Refusal>
 fn has_large_id(count: usize, ids: &[u16]) -> bool
     ensures { result ≡ large_id count ids.now }
 {
-    // Every id is looked at, several at a time: the library's `any`, which stops at the first, takes a third longer than a loop that does.
-    let mut is_large = false;
+    // By hand: the library's `any` takes two instructions more an id.
     for &id in ids {
         if count <= id as usize {
-            is_large = true;
+            return true;
         }
     }
-    is_large
+    false
 }
 
 fn check_mask(n: usize, cube: usize, ids: &[u16], keep: usize) -> Result<(), Refusal>
