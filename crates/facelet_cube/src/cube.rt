@@ -91,13 +91,7 @@ pub fn is_solved(n: usize, cube: &[u8]) -> Result<bool, Refusal>
 fn has_large_id(count: usize, ids: &[u16]) -> bool
     ensures { result ≡ large_id count ids.now }
 {
-    // By hand: the library's `any` takes two instructions more an id.
-    for &id in ids {
-        if count <= id as usize {
-            return true;
-        }
-    }
-    false
+    ids.iter().any(|&id| count <= id as usize)
 }
 
 fn check_mask(n: usize, cube: usize, ids: &[u16], keep: usize) -> Result<(), Refusal>
